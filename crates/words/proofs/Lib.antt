@@ -1,0 +1,10 @@
+pub mod Pieces
+pub mod Pasting
+pub mod Counting
+pub mod Senders
+pub mod Naming
+pub mod Verdicts
+pub mod Building
+pub mod Pairing
+pub mod Checking
+pub mod Reading

@@ -8,3 +8,4 @@ pub mod Building
 pub mod Pairing
 pub mod Checking
 pub mod Reading
+pub mod Tables

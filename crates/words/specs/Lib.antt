@@ -1,3 +1,5 @@
 pub mod Words
 pub mod Reading
 pub mod Lists
+pub mod Bytes
+pub mod Refusals

@@ -23,6 +23,33 @@ fn direct(links: &[Link]) -> [bool; 65536]
     table
 }
 
+// Whether the table has it that one task reaches another.
+fn reaches(table: &[bool; 65536], from: usize, to: usize) -> bool
+    requires from_known { ⌜ from < 256 ⌝ }
+    requires to_known { ⌜ to < 256 ⌝ }
+    ensures { λ r. ⌜ r ≡ at (now (table .entry)) from to ⌝ }
+{
+    table[from * SIDE + to]
+}
+
+// Whether one of two tasks reaches a third.
+fn either_reaches(table: &[bool; 65536], one: usize, other: usize, to: usize) -> bool
+    requires one_known { ⌜ one < 256 ⌝ }
+    requires other_known { ⌜ other < 256 ⌝ }
+    requires to_known { ⌜ to < 256 ⌝ }
+    ensures { λ r. ⌜ r ≡ (at (now (table .entry)) one to || at (now (table .entry)) other to) ⌝ }
+{
+    reaches(table, one, to) | reaches(table, other, to)
+}
+
+// Whether a task reaches itself.
+fn on_circle(table: &[bool; 65536], task: usize) -> bool
+    requires { ⌜ task < 256 ⌝ }
+    ensures { λ r. ⌜ r ≡ at (now (table .entry)) task task ⌝ }
+{
+    reaches(table, task, task)
+}
+
 // Adds to one row what another holds, in the first n places.
 fn absorb(table: &mut [bool; 65536], into: usize, from: usize, n: usize)
     requires into_known { ⌜ into < 256 ⌝ }
@@ -31,7 +58,8 @@ fn absorb(table: &mut [bool; 65536], into: usize, from: usize, n: usize)
     ensures { λ _. ⌜ ((a b : ℕ) → a < 256 → b < 256 → at (now (table .exit)) a b ≡ cond (eqb a into && ltb b n) (at (now (table .entry)) into b || at (now (table .entry)) from b) (at (now (table .entry)) a b)) ⌝ }
 {
     for j in 0..n {
-        table[into * SIDE + j] = table[into * SIDE + j] | table[from * SIDE + j];
+        let either = either_reaches(table, into, from, j);
+        table[into * SIDE + j] = either;
     }
 }
 
@@ -42,7 +70,7 @@ fn pass_through(table: &mut [bool; 65536], via: usize, n: usize)
     ensures { λ _. ⌜ ((a b : ℕ) → a < n → b < n → at (now (table .exit)) a b ≡ (at (now (table .entry)) a b || (at (now (table .entry)) a via && at (now (table .entry)) via b))) ⌝ }
 {
     for i in 0..n {
-        if table[i * SIDE + via] {
+        if reaches(table, i, via) {
             absorb(table, i, via, n);
         }
     }
@@ -67,7 +95,7 @@ pub(crate) fn least_on_circle(table: &[bool; 65536], n: usize) -> u32
     ensures { λ r. ⌜ r ≡ least (λ t. at (now (table .entry)) (t - 1) (t - 1)) n ⌝ }
 {
     for t in 0..n {
-        if table[t * SIDE + t] {
+        if on_circle(table, t) {
             return t as u32 + 1;
         }
     }
@@ -82,7 +110,7 @@ pub(crate) fn count_row(table: &[bool; 65536], row: usize, n: usize) -> u32
 {
     let mut count = 0u32;
     for b in 0..n {
-        if table[row * SIDE + b] {
+        if reaches(table, row, b) {
             count += 1;
         }
     }

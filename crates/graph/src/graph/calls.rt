@@ -1,6 +1,7 @@
 // What can be done with a graph: adding a task, linking two, looking at both, and emptying it.
 ghost use mathlib.Core.Path.{_≡_};
 ghost use mathlib.Core.Bool.{true};
+ghost use lib.Dec.{eqb};
 ghost use lib.ListN.{length, take};
 ghost use Prim.Native.Nat.{_+_, _≤_, _<_};
 ghost use Rattle.std.specs.Of.Vec.{vec-len, vec-items};
@@ -36,6 +37,26 @@ pub fn time_in_range(time: u32) -> bool
     ensures { λ r. ⌜ r ≡ is-time time ⌝ }
 {
     time >= 1 && time <= MAX_TIME
+}
+
+impl Link {
+    // A link, with the older link of its sender that comes next.
+    fn new(sender: u32, receiver: u32, size: u32, next: u32) -> Link
+        ensures { λ r. ⌜ r ≡ record { sender = sender; receiver = receiver; size = size; next = next } ⌝ }
+    {
+        Link {
+            sender,
+            receiver,
+            size,
+            next,
+        }
+    }
+
+    fn goes_to(&self, task: u32) -> bool
+        ensures { λ r. ⌜ r ≡ eqb (now (self .entry) .receiver) task ⌝ }
+    {
+        self.receiver == task
+    }
 }
 
 impl Graph {
@@ -93,7 +114,7 @@ impl Graph {
         let mut at = self.tasks[from as usize - 1].newest;
         while at != 0 {
             let link = self.links[at as usize - 1];
-            if link.receiver == to {
+            if link.goes_to(to) {
                 return at;
             }
             at = link.next;
@@ -116,12 +137,7 @@ impl Graph {
         let number = self.links.len() as u32 + 1;
         let next = self.tasks[at].newest;
         self.tasks[at].newest = number;
-        self.links.push_reserved(Link {
-            sender: from,
-            receiver: to,
-            size,
-            next,
-        });
+        self.links.push_reserved(Link::new(from, to, size, next));
         number
     }
 

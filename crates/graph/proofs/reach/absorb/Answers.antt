@@ -11,7 +11,7 @@ loop-j-holds c = (c .told-table, λ a b _ _. sym (cond-false _ _ _ (and-right _ 
 pub loop-j-again : need.loop-j-again
 loop-j-again c = (
   length-set _ _ _ ∙ c .loop-j .inv .0,
-  absorb-more (c .args .table .now) (c .loop-j .table) (c .args .into) (c .args .from) (c .loop-j .j) (c .loop-j .inv .0) (omega arith) (omega arith) (omega arith) (c .loop-j .inv .1),
+  rw (c .either-reaches-either .ensures) (absorb-more (c .args .table .now) (c .loop-j .table) (c .args .into) (c .args .from) (c .loop-j .j) (c .loop-j .inv .0) (omega arith) (omega arith) (omega arith) (c .loop-j .inv .1)),
 )
 
 pub returns : need.returns

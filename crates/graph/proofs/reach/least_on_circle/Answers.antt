@@ -13,14 +13,14 @@ pub loop-t-again : need.loop-t-again
 loop-t-again c =
     let p : ℕ → Bool = λ t. at (c .args .table .now) (t - 1) (t - 1) in
     let e : suc (c .loop-t .t) - 1 ≡ c .loop-t .t = omega arith in
-    ap (least p) (add-one (c .loop-t .t)) ∙ least-more p (c .loop-t .t) (c .loop-t .inv) (ap (λ k. at (c .args .table .now) k k) e ∙ c .if-table-t .left)
+    ap (least p) (add-one (c .loop-t .t)) ∙ least-more p (c .loop-t .t) (c .loop-t .inv) (ap (λ k. at (c .args .table .now) k k) e ∙ (sym (c .on-circle .ensures) ∙ c .if-on-circle .left))
 
-pub returns-then-table-t : need.returns-then-table-t
-returns-then-table-t c =
+pub returns-then-on-circle : need.returns-then-on-circle
+returns-then-on-circle c =
     let p : ℕ → Bool = λ t. at (c .args .table .now) (t - 1) (t - 1) in
     let t = c .loop-t .t in
     let e : suc t - 1 ≡ t = omega arith in
-    let here : least p (suc t) ≡ suc t = least-here p t (c .loop-t .inv) (ap (λ k. at (c .args .table .now) k k) e ∙ c .if-table-t .taken) in
+    let here : least p (suc t) ≡ suc t = least-here p t (c .loop-t .inv) (ap (λ k. at (c .args .table .now) k k) e ∙ (sym (c .on-circle .ensures) ∙ c .if-on-circle .taken)) in
     let far : suc t + (c .args .n - suc t) ≡ c .args .n = omega arith in
     add-one t ∙ sym here ∙ sym (least-far p (suc t) (c .args .n - suc t) (λ z. omega arith)) ∙ ap (least p) far
 

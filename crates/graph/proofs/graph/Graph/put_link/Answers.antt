@@ -1,6 +1,6 @@
 use borrow.Author.Needs.{needs}
 use mathlib.Core.Path.{_≡_, refl, sym, ap, subst, _∙_}
-use mathlib.Core.List.{List}
+use mathlib.Core.List.{List, [], _∷_, _++_}
 use Prim.Native.Nat.{_+_, _-_, _<_, _≤_}
 use native.Mathlib.Omega.{arith}
 use lib.ListN.{length, set}
@@ -31,7 +31,8 @@ ghost-self c =
     let P : List Link → Type 0 = λ xs. Sound (set ts k t) xs in
     let l : Link = record { sender = c .args .from; receiver = c .args .to; size = c .args .size; next = c .index .result .now .newest } in
     let fits : Fits (length ts) l = record { joined = (a .0, a .1, b .0, b .1); unlooped = c .pre .unlooped; sized = c .pre .sized } in
-    let s = subst P (sym (c .push-reserved .ensures .items)) (sound-link ts ls l k t h (sym same) n time next fits (c .pre .single) (graph-sound g)) in (
+    let Q : Link → Type 0 = λ x. P (ls ++ (x ∷ [])) in
+    let s = subst P (sym (c .push-reserved .ensures .items)) (subst Q (sym (c .new .ensures)) (sound-link ts ls l k t h (sym same) n time next fits (c .pre .single) (graph-sound g))) in (
       search needs,
       (
         search needs,

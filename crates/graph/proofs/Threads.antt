@@ -75,7 +75,7 @@ single-link links l none s =
     (rw (take-at links (l ∷ []) (length links) refl) none)
 
 -- the sender's newest link is the new one
-headed-link : (tasks : List Task) (links : List Link) (l : Link) (k : ℕ) (t : Task) → k < length tasks → l .sender ≡ k + 1 → t .newest ≡ length links + 1 → Headed tasks links → Headed (set tasks k t) (links ++ l ∷ [])
+pub headed-link : (tasks : List Task) (links : List Link) (l : Link) (k : ℕ) (t : Task) → k < length tasks → l .sender ≡ k + 1 → t .newest ≡ length links + 1 → Headed tasks links → Headed (set tasks k t) (links ++ l ∷ [])
 headed-link tasks links l k t within s e h i lt =
     let ln : length (set tasks k t) ≡ length tasks = length-set tasks k t in
     ⊎-elim

@@ -23,7 +23,7 @@ pub tasks-built : (ws : List ℕ) (t : ℕ) → length (with-tasks ws t .tasks) 
 tasks-built ws zero = refl
 tasks-built ws (suc t) = length-push (with-tasks ws t .tasks) _ ∙ ap (λ k. k + 1) (tasks-built ws t) ∙ add-one t
 
-no-links-yet : (ws : List ℕ) (t : ℕ) → with-tasks ws t .links ≡ []
+pub no-links-yet : (ws : List ℕ) (t : ℕ) → with-tasks ws t .links ≡ []
 no-links-yet ws zero = refl
 no-links-yet ws (suc t) = no-links-yet ws t
 
@@ -118,7 +118,7 @@ module _ (ws : List ℕ) (l : ℕ) (few : link-count ws ≤ 1024) (lo : 1 ≤ l)
       fault-none z k e g f kz =
           sym (allowed before from to size known room (there r er nz h) apart (omega arith) (sym (f ∙ ap (λ x. linked (before .links) x r) es ∙ ap (linked (before .links) from) er) ∙ kz))
 
-or-else-none : {R : Type 0} (a b : Option R) → or-else a b ≡ None → (a ≡ None) × (b ≡ None)
+pub or-else-none : {R : Type 0} (a b : Option R) → or-else a b ≡ None → (a ≡ None) × (b ≡ None)
 or-else-none None b e = (refl, e)
 or-else-none (Some x) b e = absurd (let z : _≡_ {A = ℕ} 0 1 = cc in omega arith)
 

@@ -4,6 +4,8 @@ mod adding;
 #[cfg(test)]
 mod closing;
 #[cfg(test)]
+mod job_words;
+#[cfg(test)]
 mod linking;
 #[cfg(test)]
 mod support;

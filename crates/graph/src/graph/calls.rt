@@ -11,7 +11,8 @@ ghost use Rattle.std.specs.declared.option.Option.the-variants.{Some, None};
 ghost use Rattle.graph.specs.Net.{empty, linked, Sound};
 ghost use Rattle.graph.specs.Outgoing.{Lists-are-exact};
 ghost use Rattle.graph.specs.Calls.{is-task, is-time, with-link, add-step, link-step, first-of};
-ghost use Rattle.graph.specs.Walks.{close-rows, Processes, Reaches-by-walks, Names-a-circle};
+ghost use Rattle.graph.specs.Tables.{Shows};
+ghost use Rattle.graph.specs.Walks.{through, circle, close-rows, Processes, Reaches-by-walks, Names-a-circle};
 ghost use Rattle.graph.specs.Of.{net-of};
 use crate::graph::Graph;
 use crate::order::counts_of;
@@ -75,6 +76,14 @@ impl Graph {
         self.tasks.as_slice()
     }
 
+    // What holds of tasks and links in every graph, and of their lists. The function does nothing else.
+    pub fn lists_hold(&self)
+        ensures few { λ _. ⌜ (length (net-of (now (self .entry)) .tasks) ≤ 256) × (length (net-of (now (self .entry)) .links) ≤ 1024) ⌝ }
+        ensures sound { λ _. ⌜ Sound (net-of (now (self .entry)) .tasks) (net-of (now (self .entry)) .links) ⌝ }
+        ensures lists { λ _. ⌜ Lists-are-exact (net-of (now (self .entry))) ⌝ }
+    {
+    }
+
     // The links, with what holds of tasks and links in every graph.
     pub fn links(&self) -> &[Link]
         ensures value { λ r. ⌜ now r ≡ net-of (now (self .entry)) .links ⌝ }
@@ -82,6 +91,7 @@ impl Graph {
         ensures sound { λ _. ⌜ Sound (net-of (now (self .entry)) .tasks) (net-of (now (self .entry)) .links) ⌝ }
         ensures lists { λ _. ⌜ Lists-are-exact (net-of (now (self .entry))) ⌝ }
     {
+        self.lists_hold();
         self.links.as_slice()
     }
 
@@ -175,21 +185,53 @@ impl Graph {
         self.links.clear();
     }
 
+    // That tasks reach each other by walks, and that the circle that is named is the least. It does nothing else.
+    pub fn circles_named(&self)
+        ensures walks { λ _. ⌜ Reaches-by-walks (net-of (now (self .entry))) ⌝ }
+        ensures circles { λ _. ⌜ Names-a-circle (net-of (now (self .entry))) ⌝ }
+    {
+    }
+
+    // The table of what each task reaches.
+    fn reach(&self) -> [bool; 65536]
+        ensures { λ r. ⌜ Shows (length (net-of (now (self .entry)) .tasks)) r (through (net-of (now (self .entry)) .links) (length (net-of (now (self .entry)) .tasks))) ⌝ }
+    {
+        reach_table(self.links.as_slice(), self.tasks.len())
+    }
+
+    // The least task on a circle, or 0.
+    fn circle_in(&self, table: &[bool; 65536]) -> u32
+        requires { ⌜ Shows (length (net-of (now self) .tasks)) (now table) (through (net-of (now self) .links) (length (net-of (now self) .tasks))) ⌝ }
+        ensures { λ r. ⌜ r ≡ circle (net-of (now (self .entry))) ⌝ }
+    {
+        least_on_circle(table, self.tasks.len())
+    }
+
+    // The tasks in an order in which they can be processed, where there is no circle.
+    fn order_by(&self, table: &[bool; 65536]) -> [u32; 256]
+        requires shows { ⌜ Shows (length (net-of (now self) .tasks)) (now table) (through (net-of (now self) .links) (length (net-of (now self) .tasks))) ⌝ }
+        requires none { ⌜ circle (net-of (now self)) ≡ 0 ⌝ }
+        ensures { λ r. ⌜ Processes (length (net-of (now (self .entry)) .tasks)) (net-of (now (self .entry)) .links) (take (length (net-of (now (self .entry)) .tasks)) r) ⌝ }
+    {
+        let n = self.tasks.len();
+        sorted(&counts_of(table, n), n)
+    }
+
     // The order in which the tasks can be processed, in the first places of the answer.
     pub fn processing_order(&self) -> Result<[u32; 256], Refusal>
         ensures answer { λ r. ⌜ Cases r (λ order. (first-of (close-rows (net-of (now (self .entry)))) ≡ None) × Processes (length (net-of (now (self .entry)) .tasks)) (net-of (now (self .entry)) .links) (take (length (net-of (now (self .entry)) .tasks)) order)) (λ why. first-of (close-rows (net-of (now (self .entry)))) ≡ Some why) ⌝ }
         ensures walks { λ _. ⌜ Reaches-by-walks (net-of (now (self .entry))) ⌝ }
         ensures circles { λ _. ⌜ Names-a-circle (net-of (now (self .entry))) ⌝ }
     {
-        let n = self.tasks.len();
-        if n == 0 {
+        self.circles_named();
+        if self.tasks.len() == 0 {
             return Err(Refusal::NoTask);
         }
-        let table = reach_table(self.links.as_slice(), n);
-        let on = least_on_circle(&table, n);
+        let table = self.reach();
+        let on = self.circle_in(&table);
         if on != 0 {
             return Err(Refusal::Circle(on));
         }
-        Ok(sorted(&counts_of(&table, n), n))
+        Ok(self.order_by(&table))
     }
 }

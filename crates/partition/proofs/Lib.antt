@@ -1,0 +1,12 @@
+pub mod Places
+pub mod Rejoined
+pub mod Reached
+pub mod Renamed
+pub mod Joined
+pub mod Gathering
+pub mod Summing
+pub mod Handling
+pub mod Counting
+pub mod Levels
+pub mod Figuring
+pub mod Costing

@@ -63,7 +63,7 @@ def collect():
         if not bare.endswith(".antt"):
             continue
         for m in re.finditer(r"^\s*(?:pub )?use ([^\s{]+?)\.\{([^}]*)\}", read(path), re.M):
-            module = re.match(r"Rattle\.(\w+)\.", m.group(1))
+            module = re.match(r"Rattle[.\u00b7](\w+)[.\u00b7]", m.group(1))
             if not module or module.group(1) not in crates:
                 brought |= {w for x in m.group(2).split(",") for w in [x.strip().split(" as ")[0].strip()]}
                 brought |= {x.strip().split(" as ")[1].strip() for x in m.group(2).split(",") if " as " in x}

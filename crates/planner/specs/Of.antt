@@ -4,5 +4,5 @@ use Rattle.graph.specs.Of.{net_of}
 use Rattle.planner.specs.declared.task_graph.TaskGraph.{TaskGraph}
 use Rattle.planner.specs.State.{State}
 
-abbrev pub state-of : TaskGraph → State
-state-of g = record { net = net_of g.graph; stage = g.stage; blocks = vec_items g.blocks }
+abbrev pub state_of : TaskGraph → State
+state_of g = record { net = net_of g.graph; stage = g.stage; blocks = vec_items g.blocks }

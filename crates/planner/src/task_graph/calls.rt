@@ -4,7 +4,7 @@ ghost use Rattle.graph.specs.Of.{net_of};
 ghost use Rattle.graph.specs.Walks.{NoCircle, ReachesByWalks, NamesACircle};
 ghost use Rattle.planner.specs.State.{start, is_open, numbers};
 ghost use Rattle.planner.specs.Calls.{add_task, link, close, step};
-ghost use Rattle.planner.specs.Of.{state-of};
+ghost use Rattle.planner.specs.Of.{state_of};
 
 use crate::records::Stage;
 use crate::task_graph::TaskGraph;
@@ -31,7 +31,7 @@ fn number_blocks(blocks: &mut Vec<u32>, n: usize)
 impl TaskGraph {
     // An open graph of nothing, with all the memory that it will ever need.
     pub fn new(heap: Global) -> Result<TaskGraph, AllocError>
-        ensures { IfOk result (λ g. state-of g ≡ start) }
+        ensures { IfOk result (λ g. state_of g ≡ start) }
     {
         let graph = Graph::new(heap)?;
         let blocks = Vec::with_capacity(heap, MAX_BLOCKS)?;
@@ -43,29 +43,29 @@ impl TaskGraph {
     }
 
     pub fn graph(&self) -> &Graph
-        ensures { net_of result.now ≡ (state-of self.now).net }
+        ensures { net_of result.now ≡ (state_of self.now).net }
     {
         &self.graph
     }
 
     // The stage; past the open one no walk over links comes back to where it began.
     pub fn stage(&self) -> Stage
-        ensures value { result ≡ (state-of self.now).stage }
-        ensures acyclic { is_open result ≡ false → NoCircle (state-of self.now).net.links }
+        ensures value { result ≡ (state_of self.now).stage }
+        ensures acyclic { is_open result ≡ false → NoCircle (state_of self.now).net.links }
     {
         self.stage
     }
 
     // The block of each task.
     pub fn blocks(&self) -> &[u32]
-        ensures { result.now ≡ (state-of self.now).blocks }
+        ensures { result.now ≡ (state_of self.now).blocks }
     {
         self.blocks.as_slice()
     }
 
     // Takes one more task in, and answers its number.
     pub fn add_task(&mut self, time: u32) -> Result<u32, Refusal>
-        ensures { (state-of self.new, result) ≡ step (state-of self.old) (add_task time) }
+        ensures { (state_of self.new, result) ≡ step (state_of self.old) (add_task time) }
     {
         let Stage::Open = self.stage else {
             return Err(Refusal::WrongStage);
@@ -75,7 +75,7 @@ impl TaskGraph {
 
     // Links two tasks, and answers the link's number.
     pub fn link(&mut self, from: u32, to: u32, size: u32) -> Result<u32, Refusal>
-        ensures { (state-of self.new, result) ≡ step (state-of self.old) (link from to size) }
+        ensures { (state_of self.new, result) ≡ step (state_of self.old) (link from to size) }
     {
         let Stage::Open = self.stage else {
             return Err(Refusal::WrongStage);
@@ -85,9 +85,9 @@ impl TaskGraph {
 
     // Fixes the tasks and links, makes every task a block of its own, and answers the number of tasks.
     pub fn close(&mut self) -> Result<u32, Refusal>
-        ensures after { (state-of self.new, result) ≡ step (state-of self.old) close }
-        ensures walks { ReachesByWalks (state-of self.old).net }
-        ensures circles { NamesACircle (state-of self.old).net }
+        ensures after { (state_of self.new, result) ≡ step (state_of self.old) close }
+        ensures walks { ReachesByWalks (state_of self.old).net }
+        ensures circles { NamesACircle (state_of self.old).net }
     {
         let Stage::Open = self.stage else {
             return Err(Refusal::WrongStage);

@@ -1,13 +1,13 @@
 -- What the laws of a figure give of the best over all chains.
-use Rattle.std.proofs.Common.{◌≡◌, ℕ, zero, suc, ◌+◌, ◌<◌, ◌≤◌, ◌⊎◌, List, [], ◌∷◌, ◌++◌, map, length, get_or, set, fold, sym, refl, ap, ◌∙◌, subst, ap₂, inl, inr, ⊎_elim, arith}
+use Rattle.std.proofs.Common.{◌≡◌, ℕ, zero, suc, ◌+◌, ◌<◌, ◌≤◌, List, [], ◌∷◌, ◌++◌, map, length, get_or, set, fold, sym, refl, ap, ◌∙◌, inl, ⊎_elim, arith}
 use Rattle.std.specs.List.{flat_map}
 use Rattle.std.proofs.lemmas.List.{map-append, get_or-set_same, get_or-set_other}
 use Rattle.std.proofs.lemmas.Bool.{cases_eq}
 use Rattle.chains.specs.Lists.{In}
-use Rattle.chains.specs.Chains.{Step, successors, place, rests, chains, Ordered}
-use Rattle.chains.specs.Figures.{Figure, Laws, value_from, value, best_of, best}
+use Rattle.chains.specs.Chains.{Step, successors, place, rests, Ordered}
+use Rattle.chains.specs.Figures.{Figure, Laws, value, best_of, best}
 use Rattle.chains.specs.declared.message.Message.{Message}
-use Rattle.chains.proofs.Lists.{map_same, at_place, in_getD, place_in, in_place}
+use Rattle.chains.proofs.Lists.{map_same, at_place, in_getD}
 use Rattle.chains.proofs.Every.{in_step, rises}
 
 folded_append : {A B : Type 0} (f : B → A → B) (a : B) (xs ys : List A) → fold f a (xs ++ ys) ≡ fold f (fold f a xs) ys

@@ -1,11 +1,11 @@
 -- The list of chains from a block has every chain, only chains, and each once.
-use Rattle.std.proofs.Common.{◌≡◌, ℕ, zero, suc, ◌+◌, ◌<◌, ◌≤◌, Bool, true, false, cond, eqb, ◌⊎◌, List, [], ◌∷◌, ◌++◌, map, length, get_or, sym, refl, ap, ◌∙◌, subst, inl, inr, ⊎_elim, arith}
+use Rattle.std.proofs.Common.{◌≡◌, ℕ, zero, suc, ◌+◌, ◌<◌, ◌≤◌, eqb, ◌⊎◌, List, [], ◌∷◌, map, length, sym, refl, ap, ◌∙◌, subst, inl, inr, ⊎_elim, arith}
 use Rattle.std.specs.List.{flat_map}
 use Rattle.std.proofs.lemmas.Bool.{cases_Bool, eqb-true, eq-eqb, both_ways}
 use Rattle.chains.specs.Lists.{In, Apart}
 use Rattle.chains.specs.Chains.{Step, Follows, ChainFrom, place, Ordered, has, with_new, successors, rests, chains, Enumerates}
 use Rattle.chains.specs.declared.message.Message.{Message}
-use Rattle.chains.proofs.Lists.{in_map, of_map, in_joined, of_joined, in_append, apart_append, apart_map, has_in, in_has, in_place}
+use Rattle.chains.proofs.Lists.{in_map, of_map, in_joined, of_joined, apart_append, apart_map, has_in, in_has, in_place}
 
 -- a step among the messages after the first is one among all
 later : (m : Message) (ms : List Message) (a b : ℕ) → Step ms a b → Step (m ∷ ms) a b

@@ -1,10 +1,10 @@
 -- The best of a sum figure is the greatest sum: some chain has it, and none has more.
-use Rattle.std.proofs.Common.{◌≡◌, ℕ, zero, suc, ◌+◌, ◌-◌, ◌*◌, ◌^◌, ◌<◌, ◌≤◌, min, max, ◌⊎◌, List, [], ◌∷◌, map, length, fold, sym, refl, ap, ◌∙◌, subst, inl, inr, ⊎_elim, arith}
+use Rattle.std.proofs.Common.{◌≡◌, ℕ, ◌+◌, ◌-◌, ◌*◌, ◌^◌, ◌<◌, ◌≤◌, max, ◌⊎◌, List, [], ◌∷◌, map, length, fold, sym, refl, ap, ◌∙◌, subst, inl, inr, ⊎_elim, arith}
 use Rattle.std.proofs.lemmas.Bool.{cases_lt}
 use Rattle.chains.specs.Lists.{In, total}
 use Rattle.chains.specs.Chains.{Step, Follows, ChainFrom, Ordered, Enumerates, chains, place}
 use Rattle.chains.specs.Figures.{value_from, value, best_of, best}
-use Rattle.chains.specs.Sums.{capped, sums, steps_from, steps_total, GreatestFrom}
+use Rattle.chains.specs.Sums.{capped, sums, steps_from, GreatestFrom}
 use Rattle.chains.specs.declared.message.Message.{Message}
 use Rattle.chains.proofs.Lists.{in_place, place_in}
 use Rattle.chains.proofs.Every.{rises, short}

@@ -1,6 +1,5 @@
 -- What a network's facts say together.
-use Rattle.std.proofs.Common.{◌≡◌, ℕ, ◌-◌, ◌<◌, ◌≤◌, List, length, get_or, subst, arith}
-use Rattle.chains.specs.Lists.{In}
+use Rattle.std.proofs.Common.{ℕ, ◌-◌, ◌<◌, ◌≤◌, List, length, get_or, arith}
 use Rattle.chains.specs.Chains.{place, Ordered}
 use Rattle.chains.specs.Links.{message_at}
 use Rattle.chains.specs.declared.message.Message.{Message}

@@ -1,9 +1,9 @@
 -- What the table of places holds while an order is read, and what it decides.
-use Rattle.std.proofs.Common.{◌≡◌, ℕ, zero, suc, ◌+◌, ◌<◌, ◌≤◌, Bool, true, false, cond, ◌||◌, eqb, ◌⊎◌, List, [], ◌∷◌, ◌++◌, length, get_or, take, set, sym, refl, ap, ◌∙◌, subst, inl, inr, ⊎_elim, arith}
+use Rattle.std.proofs.Common.{◌≡◌, ℕ, suc, ◌+◌, ◌<◌, ◌≤◌, Bool, true, false, eqb, ◌⊎◌, List, [], ◌∷◌, ◌++◌, length, get_or, take, set, sym, refl, ap, ◌∙◌, subst, inl, inr, ⊎_elim, arith}
 use Rattle.std.proofs.lemmas.List.{get_or-set_same, get_or-set_other, length-set, take_more, take_all, length-take-le, get_or-take}
-use Rattle.std.proofs.lemmas.Bool.{cases_Bool, cases_eq, eqb-true, eqb-false, eq-eqb, ne_eqb, true≢false}
+use Rattle.std.proofs.lemmas.Bool.{cases_Bool, eqb-false, eq-eqb, ne_eqb, true≢false}
 use Rattle.chains.specs.Lists.{In, Apart}
-use Rattle.chains.specs.Chains.{Blocks, Once, Forward, Ordered, place, has}
+use Rattle.chains.specs.Chains.{Blocks, Once, Forward, place, has}
 use Rattle.chains.specs.Links.{Numbered, Before, message_at}
 use Rattle.chains.specs.declared.message.Message.{Message}
 use Rattle.chains.proofs.Lists.{in_append, in_left, in_right, in_getD, in_index, has_in, in_has, in_place, place_in, apart_append, apart_once}

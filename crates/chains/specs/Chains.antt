@@ -1,5 +1,5 @@
 -- Steps and chains over a list of messages, processing orders, and the list of all chains from a block.
-use Rattle.std.specs.Prelude.{◌≡◌, ℕ, zero, suc, ◌<◌, ◌≤◌, Bool, true, false, cond, ◌||◌, List, [], ◌∷◌, map, length, ◌==◌, slice_index}
+use Rattle.std.specs.Prelude.{◌≡◌, ℕ, zero, suc, ◌<◌, ◌≤◌, Bool, false, cond, ◌||◌, List, [], ◌∷◌, map, length, ◌==◌, slice_index}
 use Rattle.std.specs.List.{flat_map}
 use Rattle.chains.specs.Lists.{In, Apart}
 use Rattle.chains.specs.declared.message.Message.{Message}

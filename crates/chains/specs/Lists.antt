@@ -1,5 +1,5 @@
 -- Membership, apartness and sums over lists, so made that they compute at [] and ∷.
-use Rattle.std.specs.Prelude.{◌≡◌, ℕ, zero, suc, ◌+◌, max, ◌⊎◌, List, [], ◌∷◌}
+use Rattle.std.specs.Prelude.{◌≡◌, ℕ, ◌+◌, max, ◌⊎◌, List, [], ◌∷◌}
 
 -- x stands in the list
 abbrev pub In : {A : Type 0} → A → List A → Type 0

@@ -1,4 +1,5 @@
 //! The best over all chains of blocks: one text for every chain figure.
+#![tactic(auto)]
 
 pub mod best;
 pub mod figure;

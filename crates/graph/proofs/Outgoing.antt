@@ -1,11 +1,10 @@
 -- A task's list of links holds exactly the links that it sends.
-use Rattle.std.proofs.Common.{◌≡◌, ℕ, zero, suc, ◌+◌, ◌-◌, ◌<◌, ◌≤◌, Bool, true, false, cond, eqb, ◌⊎◌, List, [], ◌∷◌, length, get_or, take, sym, refl, ap, ◌∙◌, subst, inl, inr, ⊎_elim, add-one, arith}
+use Rattle.std.proofs.Common.{◌≡◌, ℕ, zero, suc, ◌+◌, ◌-◌, ◌<◌, ◌≤◌, Bool, true, false, eqb, List, [], ◌∷◌, length, get_or, take, sym, refl, ap, ◌∙◌, ⊎_elim, add-one, arith}
 use Rattle.std.proofs.lemmas.List.{take_all}
 use Rattle.std.proofs.lemmas.Bool.{cases_Bool, eqb-true, ne_eqb, cond-true, cond-false}
 use Rattle.graph.specs.declared.records.Link.{Link}
-use Rattle.graph.specs.LastOf.{last_of}
 use Rattle.graph.specs.Net.{Net, no_link, no_task, newest_of, Sound, Threaded}
-use Rattle.graph.specs.Outgoing.{along, sent_by, outgoing, ListsAreExact}
+use Rattle.graph.specs.Outgoing.{along, sent_by, ListsAreExact}
 use Rattle.graph.proofs.LastOfs.{last_bound, last_more_hit, last_more_miss}
 
 along_end : (links : List Link) (most : ℕ) → along links most 0 ≡ []

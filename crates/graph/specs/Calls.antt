@@ -1,6 +1,5 @@
 -- When a task or a link is refused, and what one more of them makes of a graph.
 use Rattle.std.specs.Prelude.{ℕ, ◌+◌, ◌-◌, Bool, cond, not, ◌&&◌, List, [], ◌∷◌, ◌++◌, length, Some, None, Ok, Err, Option, Result, ◌==◌, nat_le, nat_lt, slice_index_or, slice_set}
-use Rattle.graph.specs.declared.records.Link.{Link}
 use Rattle.graph.specs.declared.records.Task.{Task}
 use Rattle.graph.specs.declared.records.Refusal.{Refusal}
 use Rattle.graph.specs.declared.records.Refusal.TheVariants.{TimeOutOfRange, TooManyTasks, NoSuchTask, SelfLink, SizeTooLarge, AlreadyLinked, TooManyLinks}

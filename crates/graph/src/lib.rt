@@ -1,4 +1,6 @@
 // Tasks and links, their lists, paths over links, and the order in which tasks can be processed.
+#![tactic(auto)]
+
 pub mod graph;
 mod order;
 mod reach;

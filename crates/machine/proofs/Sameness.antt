@@ -1,8 +1,8 @@
 -- To mean the same is to answer alike whatever is asked. Assumes nothing.
-use Rattle.std.proofs.Common.{◌≡◌, ℕ, ◌<◌, ◌≤◌, ◌⊎◌, sym, refl, ap, ◌∙◌, subst, inl, inr, arith}
+use Rattle.std.proofs.Common.{◌≡◌, ℕ, ◌<◌, ◌≤◌, sym, refl, ap, ◌∙◌, inl, inr, arith}
 use Rattle.std.proofs.lemmas.Bool.{cases_lt}
 use Rattle.std.proofs.lemmas.Bool.Decides.{nat_tests}
-use Rattle.machine.specs.Model.{Model, asked, sized, delay_answer}
+use Rattle.machine.specs.Model.{Model, asked, sized}
 use Rattle.machine.specs.Same.{Same, Alike, SameLaws}
 
 sized_alike : (s x y : ℕ) → (s ≤ 1000000 → x ≡ y) → sized s x ≡ sized s y

@@ -9,7 +9,7 @@ use Rattle.std.proofs.lemmas.Bool.Decides.{nat_tests}
 use Rattle.machine.specs.declared.figures.Figures.{Figures}
 use Rattle.machine.specs.Figures.{fitting, linear, step_delay}
 use Rattle.machine.specs.Kinds.{bus_allows, cube_allows, figured, bus_delay, bus_model, cube_delay, cube_model}
-use Rattle.machine.specs.Model.{Model, Lawful}
+use Rattle.machine.specs.Model.{Lawful}
 
 -- each figure is within its limit
 pub record Within (f : Figures) : Type 0 where

@@ -1,4 +1,6 @@
 // Machines: what a rack of processors costs, two kinds of rack, and layers over any machine.
+#![tactic(auto)]
+
 mod bus;
 mod cube;
 mod either;

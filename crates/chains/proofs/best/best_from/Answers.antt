@@ -1,4 +1,4 @@
-use Rattle.std.proofs.Common.{◌≡◌, ℕ, ◌+◌, ◌-◌, ◌<◌, ◌≤◌, true, false, eqb, List, ◌∷◌, map, length, get_or, drop, set, fold, sym, refl, ap, ◌∙◌, subst, ap₂, arith}
+use Rattle.std.proofs.Common.{◌≡◌, ℕ, ◌+◌, ◌-◌, ◌<◌, ◌≤◌, true, false, eqb, List, map, length, get_or, drop, set, fold, sym, ap, ◌∙◌, subst, ap₂, arith}
 use Rattle.std.proofs.lemmas.List.{set-get_or}
 use Rattle.std.proofs.lemmas.Bool.{eqb-true, not-true, not-false}
 use Rattle.chains.specs.Chains.{successors, has}
@@ -6,7 +6,7 @@ use Rattle.chains.specs.Links.{message_at, latest}
 use Rattle.chains.proofs.Bests.{folded_more}
 use Rattle.chains.proofs.Links.{Walked, latest_le, none_met, walked_none, met_new, met_old, walked_new, walked_old}
 use Rattle.chains.proofs.best.best_from.Goals as goal
-use Rattle.chains.proofs.best.best_from.Goals.{then-first-time, else-first-time}
+use Rattle.chains.proofs.best.best_from.Goals.{then-first_time, else-first_time}
 
 pub loop-at-init : goal.loop-at-init
 loop-at-init g c =
@@ -52,19 +52,19 @@ loop-at-preserved g c =
     let small : to < 257 = omega (arith, c.requires.receivers i lt) in
     let value : g.row.F-Value.Denot → List ℕ → g.row.F-Value.Denot = λ d ss. fold f.better (f.alone b) (map (λ s. f.extended b s (get_or c.args.best.now s d)) ss) in
     let before : (d : g.row.F-Value.Denot) → c.loop-at.found ≡ value d S = λ d. c.loop-at.invariant.1 d ∙ ap (λ k. value d (successors (drop k ms) b)) up in
-    let stamped = c.first-time.ensures.after in
+    let stamped = c.first_time.ensures.after in
     let Q : List ℕ → Type 0 = λ st. Walked ms b mark at' st in
-    elim c.if-first-time.branch [
-      | then-first-time w' ↦
-          let new : has to S ≡ false = sym (w.marked to small) ∙ not-true (eqb (get_or stamp to 0) mark) (sym c.first-time.ensures.new ∙ w'.if-first-time.true) in (
+    elim c.if-first_time.branch [
+      | then-first_time w' ↦
+          let new : has to S ≡ false = sym (w.marked to small) ∙ not-true (eqb (get_or stamp to 0) mark) (sym c.first_time.ensures.new ∙ w'.if-first_time.true) in (
             subst Q (sym stamped) (walked_new ms b mark i at' stamp lt small e w new),
-            λ d. w'.found-is ∙ w'.better-through-found.ensures
-                ∙ ap₂ f.better (before d) (ap (f.extended b to) (w'.value-of.ensures d))
+            λ d. w'.found-is ∙ w'.better_through-found.ensures
+                ∙ ap₂ f.better (before d) (ap (f.extended b to) (w'.value_of.ensures d))
                 ∙ sym (folded_more f laws (f.alone b) (f.extended b to (get_or c.args.best.now to d)) (map (λ s. f.extended b s (get_or c.args.best.now s d)) S))
                 ∙ sym (ap (value d) (met_new ms b mark i at' lt w.own e new)),
           )
-      | else-first-time w' ↦
-          let seen : eqb (get_or stamp to 0) mark ≡ true = not-false (eqb (get_or stamp to 0) mark) (sym c.first-time.ensures.new ∙ w'.if-first-time.false) in
+      | else-first_time w' ↦
+          let seen : eqb (get_or stamp to 0) mark ≡ true = not-false (eqb (get_or stamp to 0) mark) (sym c.first_time.ensures.new ∙ w'.if-first_time.false) in
           let old : has to S ≡ true = sym (w.marked to small) ∙ seen in
           let same : set stamp to mark ≡ stamp = ap (set stamp to) (sym (eqb-true (get_or stamp to 0) mark seen)) ∙ set-get_or stamp to 0 in (
             subst Q (sym (stamped ∙ same)) (walked_old ms b mark i at' stamp lt e w old),

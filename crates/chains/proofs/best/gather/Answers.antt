@@ -1,4 +1,4 @@
-use Rattle.std.proofs.Common.{ℕ, ◌+◌, List, get_or, set, sym, refl, subst, arith}
+use Rattle.std.proofs.Common.{ℕ, ◌+◌, List, set, sym, refl, subst, arith}
 use Rattle.chains.specs.Links.{message_at}
 use Rattle.std.proofs.lemmas.List.{get_or-replicate}
 use Rattle.chains.proofs.Links.{Gathered, gathered_more, linked}

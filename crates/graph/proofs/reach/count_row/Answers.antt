@@ -1,11 +1,11 @@
-use Rattle.std.proofs.Common.{◌≡◌, ◌+◌, ◌^◌, ◌<◌, sym, ap, ◌∙◌, arith}
+use Rattle.std.proofs.Common.{◌+◌, sym, ap, ◌∙◌, arith}
 use Rattle.graph.specs.Tables.{at}
 use Rattle.graph.proofs.Tables.{count_bound, count_hit, count_miss}
 use Rattle.graph.proofs.reach.count_row.Goals as goal
 use Rattle.graph.proofs.reach.count_row.Goals.{then-reaches, else-reaches}
 
-pub overflow-add-count : goal.overflow-add-count
-overflow-add-count c = omega (arith, c.loop-b.invariant, count_bound (at c.args.table.now c.args.row) c.loop-b.b)
+pub overflow_add-count : goal.overflow_add-count
+overflow_add-count c = omega (arith, c.loop-b.invariant, count_bound (at c.args.table.now c.args.row) c.loop-b.b)
 
 pub loop-b-preserved : goal.loop-b-preserved
 loop-b-preserved c =

@@ -1,5 +1,4 @@
-use Rattle.std.proofs.Common.{◌≤◌, length, arith}
-use Rattle.chains.proofs.Lists.{in_index, in_getD}
+use Rattle.std.proofs.Common.{arith}
 use Rattle.chains.proofs.Places.{before_all, all_before}
 use Rattle.chains.proofs.network.checked.is_processing_order.Goals as goal
 
@@ -14,7 +13,7 @@ returns-in-Some c =
         short = omega (arith, c.if-order-gt256.false);
         blocks = numbered.blocks;
         once = numbered.once;
-        forward = before_all order places numbered ms (c.all-forward.ensures.0 e);
+        forward = before_all order places numbered ms (c.all_forward.ensures.0 e);
       },
-      λ o. c.all-forward.ensures.1 (all_before order places numbered ms o.forward),
+      λ o. c.all_forward.ensures.1 (all_before order places numbered ms o.forward),
     )

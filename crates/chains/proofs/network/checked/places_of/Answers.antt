@@ -1,4 +1,4 @@
-use Rattle.std.proofs.Common.{◌≡◌, ℕ, ◌≤◌, length, get_or, replicate, sym, refl, ◌∙◌, ⊎_elim, arith}
+use Rattle.std.proofs.Common.{ℕ, ◌≤◌, get_or, refl, arith}
 use Rattle.chains.proofs.Lists.{in_getD, all_same}
 use Rattle.chains.proofs.Places.{read_more, read_all, twice}
 use Rattle.chains.proofs.network.checked.places_of.Goals as goal

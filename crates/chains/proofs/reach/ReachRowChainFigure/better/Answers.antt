@@ -1,4 +1,4 @@
-use Rattle.std.proofs.Common.{◌≡◌, ◌≤◌, length, arith}
+use Rattle.std.proofs.Common.{◌≡◌, length, arith}
 use Rattle.chains.proofs.Reached.{either_whole}
 use Rattle.chains.proofs.reach.ReachRowChainFigure.better.Goals as goal
 

@@ -1,4 +1,4 @@
-use Rattle.std.proofs.Common.{◌≡◌, ℕ, ◌<◌, ◌≤◌, List, length, get_or, vec_items, sym, refl, ap, ◌∙◌, subst, arith}
+use Rattle.std.proofs.Common.{◌≡◌, ℕ, ◌<◌, ◌≤◌, length, get_or, vec_items, refl, subst, arith}
 use Rattle.graph.specs.Of.{net_of}
 use Rattle.graph.specs.Sorting.{Permutes, Falls}
 use Rattle.graph.specs.Tables.{at, count_below}
@@ -12,8 +12,8 @@ returns c =
     let m = length (vec_items g.tasks) in
     let n : c.len-n.result ≡ m = omega (arith, g.tasks.ok.0) in
     let few : m ≤ length c.sorted.result = omega (arith, g.task_limit, c.sorted.ensures.long) in
-    let C : ℕ → Type 0 = λ k. (a : ℕ) → a < k → get_or c.counts-of.result a 0 ≡ count_below (at T a) k in
+    let C : ℕ → Type 0 = λ k. (a : ℕ) → a < k → get_or c.counts_of.result a 0 ≡ count_below (at T a) k in
     let P : ℕ → Type 0 = λ k. Permutes k c.sorted.result in
-    let F : ℕ → Type 0 = λ k. Falls c.counts-of.result c.sorted.result k in
-    ordered (net_of g) _ m T refl refl c.requires.shows g.joined c.requires.none c.counts-of.result c.sorted.result few
-    (subst C n c.counts-of.ensures) (subst P n c.sorted.ensures.permutes) (subst F n c.sorted.ensures.falls)
+    let F : ℕ → Type 0 = λ k. Falls c.counts_of.result c.sorted.result k in
+    ordered (net_of g) _ m T refl refl c.requires.shows g.joined c.requires.none c.counts_of.result c.sorted.result few
+    (subst C n c.counts_of.ensures) (subst P n c.sorted.ensures.permutes) (subst F n c.sorted.ensures.falls)

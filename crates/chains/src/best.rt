@@ -71,7 +71,7 @@ fn better_through<F: ChainFigure>(
     to: u32,
     beyond: F::Value,
 ) -> F::Value
-    ensures { result ≡ (meaning figure.now).better found ((meaning figure.now).extended block to beyond) }
+    ensures { result ≡ (F.meaning figure.now).better found ((F.meaning figure.now).extended block to beyond) }
 {
     figure.better(found, figure.extend(block, to, beyond))
 }
@@ -92,7 +92,7 @@ fn best_from<F: ChainFigure>(
     requires receivers { (i : ℕ) → i < length messages.now → (message_at messages.now i).to ≤ 256 }
     requires within { block ≤ 256 }
     requires fresh { (s : ℕ) → slice_index stamp.old s < mark }
-    ensures value { (d : F.Value) → result ≡ fold (meaning figure.now).better ((meaning figure.now).alone block) (map (λ s. (meaning figure.now).extended block s (slice_index_or best.now s d)) (successors messages.now block)) }
+    ensures value { (d : F.Value) → result ≡ fold (F.meaning figure.now).better ((F.meaning figure.now).alone block) (map (λ s. (F.meaning figure.now).extended block s (slice_index_or best.now s d)) (successors messages.now block)) }
     ensures stamped { (s : ℕ) → slice_index stamp.new s ≤ mark }
 {
     let mut found = figure.alone(block);
@@ -116,7 +116,7 @@ fn best_over<F: ChainFigure>(
     best: &mut [F::Value; 257],
 )
     requires { Ordered messages.now order.now }
-    ensures bests { BestAtEach (meaning figure.now) messages.now order.now best.old best.new }
+    ensures bests { BestAtEach (F.meaning figure.now) messages.now order.now best.old best.new }
     ensures chains { (b : ℕ) → In b order.now → Enumerates messages.now (length order.now) b }
 {
     let links = gather(messages);
@@ -132,7 +132,7 @@ fn best_over<F: ChainFigure>(
 /// For each block of the order, the best over all chains that begin with it, each chain once; every other entry
 /// of `best` stays as it was. One pass over the messages and one over the order.
 pub fn best_from_each<F: ChainFigure>(figure: &F, network: &Network, best: &mut [F::Value; 257])
-    ensures bests { BestAtEach (meaning figure.now) network.now.messages.now network.now.order.now best.old best.new }
+    ensures bests { BestAtEach (F.meaning figure.now) network.now.messages.now network.now.order.now best.old best.new }
     ensures chains { (b : ℕ) → In b network.now.order.now → Enumerates network.now.messages.now (length network.now.order.now) b }
 {
     best_over(figure, network.messages, network.order, best);

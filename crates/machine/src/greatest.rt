@@ -7,8 +7,8 @@ use crate::refusal::MachineRefusal;
 
 // The greatest delay from one processor of the machine.
 fn greatest_from<M: Machine>(machine: &M, from: u32, size: u32) -> Result<u64, MachineRefusal>
-    requires { from < (meaning machine.now).processors }
-    ensures { MatchResult result (λ delay. GreatestFrom (meaning machine.now) from size delay) (λ why. Oversized size why) }
+    requires { from < (M.meaning machine.now).processors }
+    ensures { MatchResult result (λ delay. GreatestFrom (M.meaning machine.now) from size delay) (λ why. Oversized size why) }
 {
     let mut greatest = 0;
     for to in 0..machine.processors() {
@@ -19,7 +19,7 @@ fn greatest_from<M: Machine>(machine: &M, from: u32, size: u32) -> Result<u64, M
 
 // The greatest delay over all pairs of processors; a size above its limit is refused.
 pub fn greatest_delay<M: Machine>(machine: &M, size: u32) -> Result<u64, MachineRefusal>
-    ensures { MatchResult result (λ delay. GreatestDelay (meaning machine.now) size delay) (λ why. Oversized size why) }
+    ensures { MatchResult result (λ delay. GreatestDelay (M.meaning machine.now) size delay) (λ why. Oversized size why) }
 {
     let mut greatest = 0;
     for from in 0..machine.processors() {

@@ -16,7 +16,7 @@ pub struct Withholding<M> {
 impl<M: Machine> Withholding<M> {
     // Whether the processor is there to be hidden, and another is left.
     fn is_hiding(&self) -> bool
-        ensures { result ≡ hides self.now.hidden (meaning self.now.below) }
+        ensures { result ≡ hides self.now.hidden (M.meaning self.now.below) }
     {
         let processors = self.below.processors();
         processors > 1 && self.hidden < processors
@@ -24,8 +24,8 @@ impl<M: Machine> Withholding<M> {
 
     // The number that a processor here has below.
     fn lower(&self, processor: u32) -> u32
-        requires { processor < (withheld self.now.hidden (meaning self.now.below)).processors }
-        ensures { result ≡ lowered self.now.hidden (meaning self.now.below) processor }
+        requires { processor < (withheld self.now.hidden (M.meaning self.now.below)).processors }
+        ensures { result ≡ lowered self.now.hidden (M.meaning self.now.below) processor }
     {
         if self.is_hiding() && processor >= self.hidden {
             processor + 1

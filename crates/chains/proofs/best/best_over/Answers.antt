@@ -17,8 +17,8 @@ loop-k-init g c = (
   λ s. let z : ◌≡◌ {A = ℕ} (get_or (replicate 257 0) s 0) 0 = all_same {A = ℕ} 0 257 s in omega arith,
 )
 
-pub best-from-value-requires : goal.best-from-value-requires
-best-from-value-requires g c =
+pub best_from-value-requires : goal.best_from-value-requires
+best_from-value-requires g c =
     let here = block_before c.args.messages.now c.args.order.now c.requires c.loop-k.k c.loop-k-test.true c.loop-k.auto.k in (
       search rules,
       (
@@ -36,8 +36,8 @@ best-from-value-requires g c =
       ),
     )
 
-pub offset-bounds-best-block : goal.offset-bounds-best-block
-offset-bounds-best-block g c =
+pub offset_bounds-best-block : goal.offset_bounds-best-block
+offset_bounds-best-block g c =
     let k = c.loop-k.k in
     let most : get_or c.args.order.now (k - 1) 0 ≤ 256 = (block_before c.args.messages.now c.args.order.now c.requires k c.loop-k-test.true c.loop-k.auto.k).1 in
     search rules
@@ -46,7 +46,7 @@ pub listed : goal.listed
 listed g c =
     let k = c.loop-k.k in
     let most : get_or c.args.order.now (k - 1) 0 ≤ 256 = (block_before c.args.messages.now c.args.order.now c.requires k c.loop-k-test.true c.loop-k.auto.k).1 in
-    omega (arith, c.type-inv.best)
+    omega (arith, c.type_inv.best)
 
 pub bounds-best-block : goal.bounds-best-block
 bounds-best-block g c =
@@ -67,9 +67,9 @@ loop-k-preserved g c =
     let long : length c.loop-k.best ≡ 257 = search rules in
     let D : ℕ → Type 0 = λ j. Done (m.meaning f) ms order c.loop-k.best j in
     let In-order : ℕ → Type 0 = λ y. In y order in (
-      done_more (m.meaning f) (m.laws f) ms order c.requires c.loop-k.best (k - 1) c.best-from-value.result lt long (subst D up c.loop-k.invariant.0) c.best-from-value.ensures.value,
-      (λ x d no. get_or-set_other c.loop-k.best b x c.best-from-value.result d (λ e. no (subst In-order (sym e) (in_getD order (k - 1) 0 lt))) ∙ c.loop-k.invariant.1 x d no),
-      c.best-from-value.ensures.stamped,
+      done_more (m.meaning f) (m.laws f) ms order c.requires c.loop-k.best (k - 1) c.best_from-value.result lt long (subst D up c.loop-k.invariant.0) c.best_from-value.ensures.value,
+      (λ x d no. get_or-set_other c.loop-k.best b x c.best_from-value.result d (λ e. no (subst In-order (sym e) (in_getD order (k - 1) 0 lt))) ∙ c.loop-k.invariant.1 x d no),
+      c.best_from-value.ensures.stamped,
     )
 
 pub returns : goal.returns

@@ -10,7 +10,7 @@ returns c =
     let goal = c.args.figure.now.goal in
     record {
       found = λ b i. let P : Bool → Type 0 = λ x. Decides x (Reaches ms b goal) in
-          subst P (sym (c.best-from-each.ensures.bests.values b false i))
-          (tells (reach goal) (λ x. x) (λ x y. refl) ms b goal (λ r _. reach_value goal b r) (length w.order.now) (c.best-from-each.ensures.chains b i));
-      kept = λ b no. c.best-from-each.ensures.bests.kept b false no;
+          subst P (sym (c.best_from_each.ensures.bests.values b false i))
+          (tells (reach goal) (λ x. x) (λ x y. refl) ms b goal (λ r _. reach_value goal b r) (length w.order.now) (c.best_from_each.ensures.chains b i));
+      kept = λ b no. c.best_from_each.ensures.bests.kept b false no;
     }

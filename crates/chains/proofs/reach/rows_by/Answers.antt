@@ -11,7 +11,7 @@ returns c =
     let order = w.order.now in
     record {
       found = λ b goal i. let P : List Bool → Type 0 = λ x. Decides (get_or x goal false) (Reaches ms b goal) in
-          subst P (sym (c.best-from-each.ensures.bests.values b [] i))
-          (tells reach_row (λ x. get_or x goal false) (λ x y. either_at x y goal) ms b goal (λ r h. (row_value ms order (ordered_by w) goal b r i h).1) (length order) (c.best-from-each.ensures.chains b i));
-      kept = λ b no. c.best-from-each.ensures.bests.kept b [] no;
+          subst P (sym (c.best_from_each.ensures.bests.values b [] i))
+          (tells reach_row (λ x. get_or x goal false) (λ x y. either_at x y goal) ms b goal (λ r h. (row_value ms order (ordered_by w) goal b r i h).1) (length order) (c.best_from_each.ensures.chains b i));
+      kept = λ b no. c.best_from_each.ensures.bests.kept b [] no;
     }

@@ -9,7 +9,7 @@ loop-j-init c = (c.told-table, λ a b _ _. sym (cond-false _ _ _ (and_right _ _ 
 pub loop-j-preserved : goal.loop-j-preserved
 loop-j-preserved c = (
   length-set _ _ _ ∙ c.loop-j.invariant.0,
-  rw c.either-reaches-either.ensures (absorb_more c.args.table.now c.loop-j.table c.args.into c.args.from c.loop-j.j c.loop-j.invariant.0 (omega arith) (omega arith) (omega arith) c.loop-j.invariant.1),
+  rw c.either_reaches-either.ensures (absorb_more c.args.table.now c.loop-j.table c.args.into c.args.from c.loop-j.j c.loop-j.invariant.0 (omega arith) (omega arith) (omega arith) c.loop-j.invariant.1),
 )
 
 pub returns : goal.returns

@@ -15,11 +15,11 @@ loop-at-init c =
     let read = get_or_read g.tasks.items k _ h c.index.ensures no_task in
     seek_start _ _ _ _ (ap (λ (x : Task). x.newest) read ∙ g.headed k h ∙ ap (λ n. newest_of g.links.items n) same)
 
-pub returns-then-goes-to : goal.returns-then-goes-to
-returns-then-goes-to c = at_found _ _ _ _ c.loop-at-test.true c.loop-at.invariant _ c.index-in-loop-at.ensures (eqb-true _ _ (sym c.goes-to.ensures ∙ c.if-goes-to.true))
+pub returns-then-goes_to : goal.returns-then-goes_to
+returns-then-goes_to c = at_found _ _ _ _ c.loop-at-test.true c.loop-at.invariant _ c.index-in-loop-at.ensures (eqb-true _ _ (sym c.goes_to.ensures ∙ c.if-goes_to.true))
 
 pub loop-at-smaller : goal.loop-at-smaller
 loop-at-smaller c = at_less _ _ _ _ c.loop-at-test.true c.loop-at.invariant _ c.index-in-loop-at.ensures c.args.self.now.threaded
 
 pub loop-at-preserved : goal.loop-at-preserved
-loop-at-preserved c = at_next _ _ _ _ c.loop-at-test.true c.loop-at.invariant _ c.index-in-loop-at.ensures c.args.self.now.threaded (eqb-false _ _ (sym c.goes-to.ensures ∙ c.if-goes-to.false))
+loop-at-preserved c = at_next _ _ _ _ c.loop-at-test.true c.loop-at.invariant _ c.index-in-loop-at.ensures c.args.self.now.threaded (eqb-false _ _ (sym c.goes_to.ensures ∙ c.if-goes_to.false))

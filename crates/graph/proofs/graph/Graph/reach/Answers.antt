@@ -7,4 +7,4 @@ pub returns : goal.returns
 returns c =
     let g = c.args.self.now in
     let n : c.len.result ≡ length (vec_items g.tasks) = omega (arith, g.tasks.ok.0) in
-    shown_by (net_of g) _ c.len.result _ c.as-slice.ensures.value n c.reach-table.ensures
+    shown_by (net_of g) _ c.len.result _ c.as_slice.ensures.value n c.reach_table.ensures

@@ -5,4 +5,4 @@ use Rattle.machine.proofs.waiting.WaitingMachine.delay.Goals as goal
 pub longer-requires : goal.longer-requires
 longer-requires g c =
     let below = c.args.self.now.below in
-    told_le (g.M.Machine.meaning below) c.args.from c.args.to c.args.size c.in-ok-delay.delay (g.met.M.Machine.lawful below) c.in-ok-delay.ensures
+    told_le (g.M.Machine.meaning below) c.args.from c.args.to c.args.size c.in_ok-delay.delay (g.met.M.Machine.lawful below) c.in_ok-delay.ensures

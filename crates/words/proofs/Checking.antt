@@ -1,10 +1,10 @@
 -- The links of a list of words, tested one by one.
-use Rattle.std.proofs.Common.{◌≡◌, ℕ, zero, suc, ◌+◌, ◌-◌, ◌*◌, ◌<◌, ◌≤◌, Bool, true, false, cond, not, ◌&&◌, ◌⊎◌, List, [], ◌∷◌, ◌++◌, length, get_or, set, Some, None, Ok, Err, Option, sym, refl, ap, ◌∙◌, subst, inl, inr, ⊎_elim, add-one, arith, length-set}
+use Rattle.std.proofs.Common.{◌≡◌, ℕ, zero, suc, ◌+◌, ◌-◌, ◌*◌, ◌<◌, ◌≤◌, Bool, true, false, cond, not, List, [], ◌∷◌, ◌++◌, length, set, Some, None, Err, Option, sym, refl, ap, ◌∙◌, subst, add-one, arith, length-set}
 use Rattle.std.proofs.lemmas.Bool.{not-false}
 use Rattle.graph.specs.declared.records.Link.{Link}
 use Rattle.graph.specs.declared.records.Refusal.{Refusal}
-use Rattle.graph.specs.Net.{Net, newest_of}
-use Rattle.graph.specs.Calls.{first_of, is_task, link_rows}
+use Rattle.graph.specs.Net.{newest_of}
+use Rattle.graph.specs.Calls.{is_task}
 use Rattle.graph.proofs.Sounds.{numbered}
 use Rattle.words.specs.declared.refusal.ReadRefusal.{ReadRefusal}
 use Rattle.words.specs.declared.refusal.ReadRefusal.TheVariants.{Refused}

@@ -1,9 +1,9 @@
 -- Counts of what words name.
-use Rattle.std.proofs.Common.{◌≡◌, ℕ, zero, suc, ◌+◌, ◌*◌, ◌<◌, ◌≤◌, Bool, true, false, cond, eqb, ◌⊎◌, List, length, get_or, set, sym, refl, ap, ◌∙◌, subst, inl, inr, ⊎_elim, arith}
+use Rattle.std.proofs.Common.{◌≡◌, ℕ, zero, suc, ◌+◌, ◌<◌, ◌≤◌, Bool, cond, eqb, List, length, get_or, set, sym, refl, ap, ◌∙◌, ⊎_elim, arith}
 use Rattle.std.proofs.lemmas.List.{get_or-set_same, get_or-set_other}
 use Rattle.std.proofs.lemmas.Bool.{cases_eq, eq-eqb, ne_eqb}
 use Rattle.graph.specs.Tables.{count_below}
-use Rattle.graph.proofs.Tables.{count_hit, count_miss, count_bound}
+use Rattle.graph.proofs.Tables.{count_hit, count_miss}
 
 module _ (f : ℕ → ℕ) (E : List ℕ) where
   -- the counts after the first i

@@ -1,10 +1,10 @@
 -- Words that are written one after another.
-use Rattle.std.proofs.Common.{◌≡◌, ℕ, zero, suc, ◌+◌, ◌*◌, ◌<◌, ◌≤◌, List, [], ◌∷◌, ◌++◌, length, get_or, drop, set, Ok, sym, refl, ap, ◌∙◌, ap₂, arith}
+use Rattle.std.proofs.Common.{◌≡◌, ℕ, ◌+◌, ◌*◌, ◌<◌, ◌≤◌, List, [], ◌∷◌, ◌++◌, length, get_or, drop, set, Ok, sym, refl, ap, ◌∙◌, ap₂, arith}
 use lib.Seq.{paste}
 use Rattle.std.specs.List.{flat_map}
 use Rattle.std.proofs.lemmas.List.{length-append}
 use Rattle.std.proofs.lemmas.Bool.{cond-true, le-leb}
-use Rattle.std.proofs.lemmas.List.Edits.{paste_more, paste_none, paste_all, paste-paste, length-paste}
+use Rattle.std.proofs.lemmas.List.Edits.{paste_more, paste_none, paste_all, paste-paste}
 use Rattle.graph.specs.declared.records.Link.{Link}
 use Rattle.graph.specs.declared.records.Task.{Task}
 use Rattle.graph.specs.Net.{Net, no_task, no_link}

@@ -1,15 +1,15 @@
 -- What the tests of a list of words leave known, and the graph that is made of it.
-use Rattle.std.proofs.Common.{◌≡◌, ℕ, zero, suc, ◌+◌, ◌-◌, ◌*◌, ◌<◌, ◌≤◌, Bool, true, false, cond, not, eqb, ltb, leb, List, [], ◌∷◌, length, Some, None, Ok, Err, Option, Result, sym, refl, ap, ◌∙◌, subst, add-one, arith}
+use Rattle.std.proofs.Common.{◌≡◌, ℕ, suc, ◌+◌, ◌-◌, ◌<◌, ◌≤◌, Bool, true, false, not, eqb, ltb, List, length, Some, None, Ok, Err, Option, Result, sym, refl, ap, ◌∙◌, subst, add-one, arith}
 use Rattle.std.proofs.lemmas.Bool.{not-false, ltb-false, leb-false, eqb-true, cond-false, lt-leb, not_from_true}
 use Rattle.graph.specs.Net.{Net}
-use Rattle.graph.specs.Calls.{Answer, first_of, settle, is_time, task_rows, link_rows, with_task, with_link, add_step, link_step}
+use Rattle.graph.specs.Calls.{Answer, first_of, settle, is_time, task_rows, link_rows, with_task, add_step, link_step}
 use Rattle.graph.specs.Walks.{least}
 use Rattle.graph.proofs.Walks.{least_none}
 use Rattle.words.specs.declared.refusal.ReadRefusal.{ReadRefusal}
 use Rattle.words.specs.Words.{word_count}
-use Rattle.words.specs.Reading.{word, task_count, link_count, time_place, receiver_place, size_place, newest_missing, next_not_older, not_named_once, time_refused, form_rows, list_rows, at_first, verdict, sender_of, with_tasks, with_links, graph_read, link_refusal, first_refused, or_else, read_refusal, read_step}
+use Rattle.words.specs.Reading.{word, task_count, link_count, time_place, receiver_place, size_place, newest_missing, next_not_older, not_named_once, time_refused, form_rows, list_rows, verdict, sender_of, with_tasks, with_links, graph_read, link_refusal, first_refused, or_else, read_refusal, read_step}
 use Rattle.words.specs.Lists.{Few, Named, Timely}
-use Rattle.words.proofs.Building.{tasks_built, tasks_stay, links_built, none_refused}
+use Rattle.words.proofs.Building.{tasks_built, none_refused}
 use Rattle.words.proofs.Checking.{row_none}
 
 pub verdict_ok : (o : Option ReadRefusal) → Ok tt ≡ verdict o → o ≡ None

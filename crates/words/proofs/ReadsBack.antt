@@ -1,7 +1,7 @@
 -- The words of a graph are accepted, and stand for that graph.
-use Rattle.std.proofs.Common.{◌≡◌, ℕ, zero, suc, ◌+◌, ◌-◌, ◌*◌, ◌<◌, ◌≤◌, Bool, true, false, cond, not, eqb, ltb, leb, ◌⊎◌, List, [], ◌∷◌, ◌++◌, length, get_or, take, None, Option, sym, refl, ap, ◌∙◌, subst, ap₂, inl, inr, ⊎_elim, add-one, arith}
+use Rattle.std.proofs.Common.{◌≡◌, ℕ, zero, suc, ◌+◌, ◌-◌, ◌<◌, ◌≤◌, Bool, true, false, cond, not, eqb, List, [], ◌∷◌, ◌++◌, length, get_or, take, None, sym, refl, ap, ◌∙◌, subst, ap₂, ⊎_elim, add-one, arith}
 use Rattle.std.proofs.lemmas.List.{take_more, take_all, ext_get_or}
-use Rattle.std.proofs.lemmas.Bool.{both_ways, cases_eq, cases_lt, cases_Bool, eq-eqb, ne_eqb, eqb-true, cond-true, cond-false, and_from, le-leb, le-ltb, lt-leb, not_from_true, not_from_false}
+use Rattle.std.proofs.lemmas.Bool.{both_ways, cases_eq, cases_lt, cases_Bool, eq-eqb, eqb-true, cond-false, and_from, le-leb, le-ltb, lt-leb, not_from_true}
 use Rattle.graph.specs.declared.records.Link.{Link}
 use Rattle.graph.specs.declared.records.Task.{Task}
 use Rattle.graph.specs.Net.{Net, no_task, no_link, newest_of, linked, Sound}
@@ -12,13 +12,13 @@ use Rattle.graph.proofs.LastOfs.{last_more_hit, last_more_miss}
 use Rattle.graph.proofs.Tables.{count_hit, count_miss}
 use Rattle.graph.proofs.Walks.{least_more}
 use Rattle.words.specs.Words.{words_of, word_count}
-use Rattle.words.specs.Reading.{word, task_count, link_count, time_place, newest_place, receiver_place, size_place, next_place, form_rows, list_rows, newest_missing, next_not_older, not_named_once, time_refused, times_named, latest, naming_task, naming_link, sender_of, with_links, graph_read, link_refusal, at_link, or_else, first_refused, read_refusal}
-use Rattle.words.specs.Lists.{Few, Named, Timely}
+use Rattle.words.specs.Reading.{word, task_count, link_count, time_place, newest_place, receiver_place, size_place, next_place, form_rows, list_rows, newest_missing, next_not_older, not_named_once, time_refused, times_named, latest, naming_task, naming_link, sender_of, with_links, graph_read, link_refusal, or_else, first_refused}
+use Rattle.words.specs.Lists.{Named}
 use Rattle.words.specs.RoundTrips.{ReadsBack}
-use Rattle.words.proofs.Building.{tasks_stay, links_built, no_links_yet, fault_none}
+use Rattle.words.proofs.Building.{tasks_stay, no_links_yet, fault_none}
 use Rattle.words.proofs.Checking.{passes}
 use Rattle.words.proofs.Senders.{latest_hit, latest_miss, latest_bound, latest_from, latest_holds, later_link, sender_task, sender_link, sender_known}
-use Rattle.words.proofs.WrittenBack.{length_words, word_of_task, word_of_link, link_made, time_made, headed_made}
+use Rattle.words.proofs.WrittenBack.{length_words, word_of_task, word_of_link, time_made, headed_made}
 
 -- counts of one and of none
 count_none : (p : ℕ → Bool) (n : ℕ) → ((j : ℕ) → j < n → p j ≡ true → ⊥) → count_below p n ≡ 0

@@ -1,11 +1,11 @@
 -- In whose list each link stands, where every link is named once.
-use Rattle.std.proofs.Common.{◌≡◌, ℕ, zero, suc, ◌+◌, ◌-◌, ◌*◌, ◌<◌, ◌≤◌, Bool, true, false, cond, eqb, ◌⊎◌, List, length, get_or, set, sym, refl, ap, ◌∙◌, subst, inl, inr, ⊎_elim, add-one, arith, length-set}
+use Rattle.std.proofs.Common.{◌≡◌, ℕ, zero, suc, ◌+◌, ◌-◌, ◌<◌, ◌≤◌, Bool, true, false, eqb, List, length, get_or, set, sym, refl, ap, ◌∙◌, subst, ⊎_elim, add-one, arith, length-set}
 use Rattle.std.proofs.lemmas.List.{get_or-set_same, get_or-set_other}
 use Rattle.std.proofs.lemmas.Bool.{both_ways, cases_eq, cases_lt, cases_Bool, eq-eqb, ne_eqb, eqb-true, cond-true, cond-false}
 use Rattle.graph.specs.Tables.{count_below}
-use Rattle.graph.proofs.Tables.{count_hit, count_miss, count_bound}
-use Rattle.words.specs.Reading.{word, task_count, link_count, newest_place, next_place, times_named, latest, naming_task, naming_link, owner, sender_of}
-use Rattle.words.specs.Lists.{Few, Named}
+use Rattle.graph.proofs.Tables.{count_hit, count_miss}
+use Rattle.words.specs.Reading.{word, task_count, link_count, newest_place, next_place, latest, naming_task, naming_link, owner, sender_of}
+use Rattle.words.specs.Lists.{Named}
 
 -- the greatest number that passes
 module _ (p : ℕ → Bool) where

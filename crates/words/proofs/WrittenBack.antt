@@ -1,5 +1,5 @@
 -- Words that are accepted are written back equal.
-use Rattle.std.proofs.Common.{◌≡◌, ℕ, zero, suc, ◌+◌, ◌-◌, ◌*◌, ◌/◌, ◌%◌, ◌<◌, ◌≤◌, Bool, true, false, cond, eqb, ◌⊎◌, List, [], ◌∷◌, ◌++◌, length, get_or, set, None, sym, refl, ap, ◌∙◌, subst, inl, inr, ⊎_elim, add-one, arith, length-set}
+use Rattle.std.proofs.Common.{◌≡◌, ℕ, zero, suc, ◌+◌, ◌-◌, ◌*◌, ◌/◌, ◌%◌, ◌<◌, ◌≤◌, eqb, List, [], ◌∷◌, ◌++◌, length, get_or, set, sym, refl, ap, ◌∙◌, ⊎_elim, add-one, arith}
 use Rattle.std.specs.List.{flat_map}
 use Rattle.std.proofs.lemmas.List.{length-append, get_or_append_left, get_or-append-add, get_or_push, ext_get_or, length_push, get_or-set_same, get_or-set_other, set_past, get_or_past}
 use Rattle.std.proofs.lemmas.Bool.{cases_eq, cases_lt}
@@ -9,7 +9,7 @@ use Rattle.graph.specs.Net.{Net, no_task, no_link, newest_of, Headed}
 use Rattle.graph.specs.Calls.{first_of, with_newest}
 use Rattle.graph.proofs.Threads.{headed_link}
 use Rattle.words.specs.Words.{task_words, link_words, words_of, word_count}
-use Rattle.words.specs.Reading.{word, task_count, link_count, time_place, newest_place, receiver_place, size_place, next_place, latest, sender_of, with_tasks, with_links, graph_read, first_refused, form_rows, list_rows, read_refusal, or_else}
+use Rattle.words.specs.Reading.{word, task_count, link_count, time_place, newest_place, receiver_place, size_place, next_place, latest, sender_of, with_tasks, with_links, graph_read, form_rows, list_rows}
 use Rattle.words.specs.Lists.{Named}
 use Rattle.words.specs.RoundTrips.{WrittenBack}
 use Rattle.words.proofs.Pieces.{length_pieces, getD_pieces}

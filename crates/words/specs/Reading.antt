@@ -1,5 +1,5 @@
 -- What a list of words says, when it is refused, and the graph that it stands for.
-use Rattle.std.specs.Prelude.{◌≡◌, ℕ, zero, suc, ◌+◌, ◌-◌, ◌*◌, Bool, cond, not, List, [], ◌∷◌, length, Some, None, Ok, Err, Option, Result, ◌==◌, nat_eq, nat_le, nat_lt, slice_index}
+use Rattle.std.specs.Prelude.{ℕ, zero, suc, ◌+◌, ◌-◌, ◌*◌, Bool, cond, not, List, [], ◌∷◌, length, Some, None, Ok, Err, Option, Result, ◌==◌, nat_eq, nat_le, nat_lt, slice_index}
 use Rattle.graph.specs.declared.records.Refusal.{Refusal}
 use Rattle.graph.specs.declared.records.Refusal.TheVariants.{WrongStage, TimeOutOfRange, TooManyTasks, NoSuchTask, SelfLink, SizeTooLarge, AlreadyLinked, TooManyLinks, NoTask, Circle, OutputTooShort}
 use Rattle.graph.specs.Net.{Net, empty}

@@ -18,7 +18,7 @@ pub(crate) trait Test {
 // The first of the numbers 1 to `count` at which a test holds, or 0.
 pub(crate) fn first_where<T: Test>(test: &T, count: usize) -> usize
     requires { count ≤ 1024 }
-    ensures value { result ≡ least (holds test.now) count }
+    ensures value { result ≡ least (T.holds test.now) count }
     ensures bound { result ≤ count }
 {
     for before in 0..count {

@@ -1,4 +1,6 @@
 // Job words: a graph as a list of 32-bit numbers, written and read.
+#![tactic(auto)]
+
 pub mod bytes;
 mod checks;
 mod names;

@@ -1,4 +1,4 @@
-use Rattle.std.proofs.Common.{◌≡◌, ℕ, ◌+◌, ◌*◌, ◌<◌, ◌≤◌, eqb, List, get_or, replicate, sym, ap, ◌∙◌, arith}
+use Rattle.std.proofs.Common.{◌≡◌, ℕ, ◌+◌, ◌*◌, ◌<◌, ◌≤◌, eqb, List, get_or, replicate, ap, ◌∙◌, arith}
 use Rattle.std.proofs.lemmas.List.{get_or-replicate}
 use Rattle.graph.specs.Tables.{count_below}
 use Rattle.graph.proofs.Tables.{count_bound}
@@ -20,22 +20,22 @@ by-links ws t n m l d e =
     count_same (λ i. eqb (word ws (2 * t + 5 + 3 * i)) l) (λ j. eqb (word ws (next_place ws (j + 1))) l) n (λ k _. let q : 2 * t + 5 + 3 * k ≡ next_place ws (k + 1) = omega arith in ap (λ p. eqb (word ws p) l) q)
     ∙ ap (count_below (λ j. eqb (word ws (next_place ws (j + 1))) l)) e
 
-pub count-words-requires : goal.count-words-requires
-count-words-requires c = record { near = omega arith; short = omega arith; few = omega arith; low = λ k l. let z : get_or (replicate {A = ℕ} 1025 0) k 0 ≤ 1024 = omega (arith, zeros k l) in z }
+pub count_words-requires : goal.count_words-requires
+count_words-requires c = record { near = omega arith; short = omega arith; few = omega arith; low = λ k l. let z : get_or (replicate {A = ℕ} 1025 0) k 0 ≤ 1024 = omega (arith, zeros k l) in z }
 
-pub count-words-requires-2 : goal.count-words-requires-2
-count-words-requires-2 c = record {
+pub count_words-requires-2 : goal.count_words-requires-2
+count_words-requires-2 c = record {
   near = omega arith;
   short = omega arith;
   few = omega arith;
-  low = λ k l. omega (arith, c.count-words.ensures k l, zeros k l, count_bound (λ (i : ℕ). eqb (word c.args.words.now (4 + 2 * i)) k) c.task-count.result);
+  low = λ k l. omega (arith, c.count_words.ensures k l, zeros k l, count_bound (λ (i : ℕ). eqb (word c.args.words.now (4 + 2 * i)) k) c.task_count.result);
 }
 
 pub returns : goal.returns
 returns c = λ l lt.
     let ws = c.args.words.now in
-    let a = c.count-words.ensures l lt in
-    let b = c.count-words-2.ensures l lt in
-    let t = by-tasks ws c.task-count.result (task_count ws) l c.task-count.ensures in
-    let k = by-links ws c.task-count-2.result c.link-count.result (link_count ws) l c.task-count-2.ensures c.link-count.ensures in
+    let a = c.count_words.ensures l lt in
+    let b = c.count_words-2.ensures l lt in
+    let t = by-tasks ws c.task_count.result (task_count ws) l c.task_count.ensures in
+    let k = by-links ws c.task_count-2.result c.link_count.result (link_count ws) l c.task_count-2.ensures c.link_count.ensures in
     omega (arith, a, b, t, k, zeros l lt)

@@ -1,4 +1,4 @@
-use Rattle.std.proofs.Common.{◌≡◌, ℕ, ◌+◌, ◌*◌, ◌≤◌, eqb, List, get_or, sym, ap, ◌∙◌, subst, mul-le-mul, arith}
+use Rattle.std.proofs.Common.{◌≡◌, ℕ, ◌+◌, ◌*◌, eqb, List, get_or, sym, ap, ◌∙◌, subst, arith}
 use Rattle.graph.specs.Tables.{count_below}
 use Rattle.graph.proofs.Tables.{count_bound}
 use Rattle.words.specs.Reading.{word}
@@ -9,8 +9,8 @@ use Rattle.words.proofs.names.count_words.Goals.{then-named-lt1025, else-named-l
 pub loop-i-init : goal.loop-i-init
 loop-i-init c = counted_none (λ i. word c.args.words.now (c.args.first + c.args.step * i)) c.args.counts.now c.told-counts
 
-pub overflow-add-counts : goal.overflow-add-counts
-overflow-add-counts c =
+pub overflow_add-counts : goal.overflow_add-counts
+overflow_add-counts c =
     let m = c.word-named.result in
     let p = λ (j : ℕ). eqb (word c.args.words.now (c.args.first + c.args.step * j)) m in
     omega (arith, c.loop-i.invariant.1 m c.if-named-lt1025.true, c.requires.low m c.if-named-lt1025.true, count_bound p c.loop-i.i)

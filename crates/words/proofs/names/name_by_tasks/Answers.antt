@@ -14,7 +14,7 @@ loop-before-preserved c =
     let f : ℕ → ℕ = λ t. word ws (newest_place t) in
     let P : List ℕ → Type 0 = λ T. Noted f T (c.loop-before.before + 1) in
     let m = c.word-named.result in
-    let e = sym (c.word-named.ensures ∙ ap (word ws) c.newest-place.ensures) in
+    let e = sym (c.word-named.ensures ∙ ap (word ws) c.newest_place.ensures) in
     elim c.if-named-lt1025.branch [
       | then-named-lt1025 w ↦ subst P (sym w.senders-is) (noted_hit f c.loop-before.senders c.loop-before.before m e w.if-named-lt1025.true c.loop-before.invariant)
       | else-named-lt1025 w ↦ subst P (sym w.senders-is) (noted_miss f c.loop-before.senders c.loop-before.before m e w.if-named-lt1025.false c.loop-before.invariant)

@@ -13,7 +13,7 @@ loop-before-preserved c =
     let lo : 1 ≤ l = omega arith in
     let hi : l ≤ link_count ws = omega arith in
     link_added ws c.loop-before.before _ _ _ _ _ _ c.requires.allowed (omega arith) (c.requires.senders.is l lo hi)
-    (c.word-receiver.ensures ∙ ap (word ws) c.receiver-place.ensures) (c.word-size.ensures ∙ ap (word ws) c.size-place.ensures) c.loop-before.invariant c.link.ensures
+    (c.word-receiver.ensures ∙ ap (word ws) c.receiver_place.ensures) (c.word-size.ensures ∙ ap (word ws) c.size_place.ensures) c.loop-before.invariant c.link.ensures
 
 pub returns : goal.returns
 returns c = let e : c.loop-before.before ≡ link_count c.args.words.now = omega arith in c.loop-before.invariant ∙ ap (with_links c.args.words.now) e

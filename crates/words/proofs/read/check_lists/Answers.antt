@@ -1,4 +1,4 @@
-use Rattle.std.proofs.Common.{◌≡◌, ℕ, suc, ◌<◌, ◌≤◌, Bool, not, eqb, List, [], ◌∷◌, get_or, Ok, Err, sym, ap, ◌∙◌, arith}
+use Rattle.std.proofs.Common.{◌≡◌, ℕ, ◌<◌, ◌≤◌, Bool, not, eqb, List, [], ◌∷◌, get_or, Err, ap, ◌∙◌, arith}
 use Rattle.graph.specs.declared.records.Refusal.TheVariants.{TimeOutOfRange}
 use Rattle.graph.specs.Walks.{least}
 use Rattle.graph.proofs.Processing.{least_same}
@@ -36,40 +36,40 @@ module _ (ws : List ℕ) where
 pub returns-then-missing-ne0 : goal.returns-then-missing-ne0
 returns-then-missing-ne0 c =
     let ws = c.args.words.now in
-    ap (λ k. Err (WrongPointer k)) c.newest-place.ensures
-    ∙ row_holds (newest_missing ws) (task_count ws) (λ t. WrongPointer (newest_place t)) (second ws) _ (first-at ws _ _ c.task-count-tasks.ensures c.first-where-missing.ensures.value) c.if-missing-ne0.true
+    ap (λ k. Err (WrongPointer k)) c.newest_place.ensures
+    ∙ row_holds (newest_missing ws) (task_count ws) (λ t. WrongPointer (newest_place t)) (second ws) _ (first-at ws _ _ c.task_count-tasks.ensures c.first_where-missing.ensures.value) c.if-missing-ne0.true
 
 pub returns-then-younger-ne0 : goal.returns-then-younger-ne0
 returns-then-younger-ne0 c =
     let ws = c.args.words.now in
-    ap (λ k. Err (WrongPointer k)) c.next-place.ensures
-    ∙ row_holds (next_not_older ws) (link_count ws) (λ l. WrongPointer (next_place ws l)) (third ws) _ (second_at ws _ _ c.link-count-links.ensures c.first-where-younger.ensures.value) c.if-younger-ne0.true
-    ∙ row_passes (newest_missing ws) (task_count ws) (λ t. WrongPointer (newest_place t)) (second ws) _ (first-at ws _ _ c.task-count-tasks.ensures c.first-where-missing.ensures.value) c.if-missing-ne0.false
+    ap (λ k. Err (WrongPointer k)) c.next_place.ensures
+    ∙ row_holds (next_not_older ws) (link_count ws) (λ l. WrongPointer (next_place ws l)) (third ws) _ (second_at ws _ _ c.link_count-links.ensures c.first_where-younger.ensures.value) c.if-younger-ne0.true
+    ∙ row_passes (newest_missing ws) (task_count ws) (λ t. WrongPointer (newest_place t)) (second ws) _ (first-at ws _ _ c.task_count-tasks.ensures c.first_where-missing.ensures.value) c.if-missing-ne0.false
 
 pub returns-then-misnamed-ne0 : goal.returns-then-misnamed-ne0
 returns-then-misnamed-ne0 c =
     let ws = c.args.words.now in
-    let few : c.link-count-links.result ≤ 1024 = omega arith in
-    ap (λ k. Err (NotNamedOnce k)) c.receiver-place.ensures
-    ∙ row_holds (not_named_once ws) (link_count ws) (λ l. NotNamedOnce (receiver_place ws l)) (fourth ws) _ (counted ws _ _ _ c.link-count-links.ensures few c.count-names.ensures c.first-where-misnamed.ensures.value) c.if-misnamed-ne0.true
-    ∙ row_passes (next_not_older ws) (link_count ws) (λ l. WrongPointer (next_place ws l)) (third ws) _ (second_at ws _ _ c.link-count-links.ensures c.first-where-younger.ensures.value) c.if-younger-ne0.false
-    ∙ row_passes (newest_missing ws) (task_count ws) (λ t. WrongPointer (newest_place t)) (second ws) _ (first-at ws _ _ c.task-count-tasks.ensures c.first-where-missing.ensures.value) c.if-missing-ne0.false
+    let few : c.link_count-links.result ≤ 1024 = omega arith in
+    ap (λ k. Err (NotNamedOnce k)) c.receiver_place.ensures
+    ∙ row_holds (not_named_once ws) (link_count ws) (λ l. NotNamedOnce (receiver_place ws l)) (fourth ws) _ (counted ws _ _ _ c.link_count-links.ensures few c.count_names.ensures c.first_where-misnamed.ensures.value) c.if-misnamed-ne0.true
+    ∙ row_passes (next_not_older ws) (link_count ws) (λ l. WrongPointer (next_place ws l)) (third ws) _ (second_at ws _ _ c.link_count-links.ensures c.first_where-younger.ensures.value) c.if-younger-ne0.false
+    ∙ row_passes (newest_missing ws) (task_count ws) (λ t. WrongPointer (newest_place t)) (second ws) _ (first-at ws _ _ c.task_count-tasks.ensures c.first_where-missing.ensures.value) c.if-missing-ne0.false
 
 pub returns-then-untimely-ne0 : goal.returns-then-untimely-ne0
 returns-then-untimely-ne0 c =
     let ws = c.args.words.now in
-    let few : c.link-count-links.result ≤ 1024 = omega arith in
-    ap (λ k. Err (Refused k TimeOutOfRange)) c.time-place.ensures
-    ∙ row_holds (time_refused ws) (task_count ws) (λ t. Refused (time_place t) TimeOutOfRange) [] _ (fourth-at ws _ _ c.task-count-tasks.ensures c.first-where-untimely.ensures.value) c.if-untimely-ne0.true
-    ∙ row_passes (not_named_once ws) (link_count ws) (λ l. NotNamedOnce (receiver_place ws l)) (fourth ws) _ (counted ws _ _ _ c.link-count-links.ensures few c.count-names.ensures c.first-where-misnamed.ensures.value) c.if-misnamed-ne0.false
-    ∙ row_passes (next_not_older ws) (link_count ws) (λ l. WrongPointer (next_place ws l)) (third ws) _ (second_at ws _ _ c.link-count-links.ensures c.first-where-younger.ensures.value) c.if-younger-ne0.false
-    ∙ row_passes (newest_missing ws) (task_count ws) (λ t. WrongPointer (newest_place t)) (second ws) _ (first-at ws _ _ c.task-count-tasks.ensures c.first-where-missing.ensures.value) c.if-missing-ne0.false
+    let few : c.link_count-links.result ≤ 1024 = omega arith in
+    ap (λ k. Err (Refused k TimeOutOfRange)) c.time_place.ensures
+    ∙ row_holds (time_refused ws) (task_count ws) (λ t. Refused (time_place t) TimeOutOfRange) [] _ (fourth-at ws _ _ c.task_count-tasks.ensures c.first_where-untimely.ensures.value) c.if-untimely-ne0.true
+    ∙ row_passes (not_named_once ws) (link_count ws) (λ l. NotNamedOnce (receiver_place ws l)) (fourth ws) _ (counted ws _ _ _ c.link_count-links.ensures few c.count_names.ensures c.first_where-misnamed.ensures.value) c.if-misnamed-ne0.false
+    ∙ row_passes (next_not_older ws) (link_count ws) (λ l. WrongPointer (next_place ws l)) (third ws) _ (second_at ws _ _ c.link_count-links.ensures c.first_where-younger.ensures.value) c.if-younger-ne0.false
+    ∙ row_passes (newest_missing ws) (task_count ws) (λ t. WrongPointer (newest_place t)) (second ws) _ (first-at ws _ _ c.task_count-tasks.ensures c.first_where-missing.ensures.value) c.if-missing-ne0.false
 
 pub returns : goal.returns
 returns c =
     let ws = c.args.words.now in
-    let few : c.link-count-links.result ≤ 1024 = omega arith in
-    row_passes (time_refused ws) (task_count ws) (λ t. Refused (time_place t) TimeOutOfRange) [] _ (fourth-at ws _ _ c.task-count-tasks.ensures c.first-where-untimely.ensures.value) c.if-untimely-ne0.false
-    ∙ row_passes (not_named_once ws) (link_count ws) (λ l. NotNamedOnce (receiver_place ws l)) (fourth ws) _ (counted ws _ _ _ c.link-count-links.ensures few c.count-names.ensures c.first-where-misnamed.ensures.value) c.if-misnamed-ne0.false
-    ∙ row_passes (next_not_older ws) (link_count ws) (λ l. WrongPointer (next_place ws l)) (third ws) _ (second_at ws _ _ c.link-count-links.ensures c.first-where-younger.ensures.value) c.if-younger-ne0.false
-    ∙ row_passes (newest_missing ws) (task_count ws) (λ t. WrongPointer (newest_place t)) (second ws) _ (first-at ws _ _ c.task-count-tasks.ensures c.first-where-missing.ensures.value) c.if-missing-ne0.false
+    let few : c.link_count-links.result ≤ 1024 = omega arith in
+    row_passes (time_refused ws) (task_count ws) (λ t. Refused (time_place t) TimeOutOfRange) [] _ (fourth-at ws _ _ c.task_count-tasks.ensures c.first_where-untimely.ensures.value) c.if-untimely-ne0.false
+    ∙ row_passes (not_named_once ws) (link_count ws) (λ l. NotNamedOnce (receiver_place ws l)) (fourth ws) _ (counted ws _ _ _ c.link_count-links.ensures few c.count_names.ensures c.first_where-misnamed.ensures.value) c.if-misnamed-ne0.false
+    ∙ row_passes (next_not_older ws) (link_count ws) (λ l. WrongPointer (next_place ws l)) (third ws) _ (second_at ws _ _ c.link_count-links.ensures c.first_where-younger.ensures.value) c.if-younger-ne0.false
+    ∙ row_passes (newest_missing ws) (task_count ws) (λ t. WrongPointer (newest_place t)) (second ws) _ (first-at ws _ _ c.task_count-tasks.ensures c.first_where-missing.ensures.value) c.if-missing-ne0.false

@@ -13,29 +13,29 @@ few ws e = (formed ws (verdict_ok _ e)).few
 knows : (ws T : List ℕ) → Ok tt ≡ verdict (first_of (list_rows ws)) → ((l : ℕ) → 1 ≤ l → l ≤ link_count ws → get_or T l 0 ≡ sender_of ws l) → Knows ws T
 knows ws T e is = record { is = is; known = sender_known ws (listed ws (verdict_ok _ e)).named }
 
-pub senders-of-senders-requires : goal.senders-of-senders-requires
-senders-of-senders-requires c = record {
-  few = few _ c.in-ok-check-form.ensures;
-  named = (listed _ (verdict_ok _ c.in-ok-check-lists.ensures)).named;
+pub senders_of-senders-requires : goal.senders_of-senders-requires
+senders_of-senders-requires c = record {
+  few = few _ c.in_ok-check_form.ensures;
+  named = (listed _ (verdict_ok _ c.in_ok-check_lists.ensures)).named;
 }
 
-pub check-links-requires : goal.check-links-requires
-check-links-requires c = record {
-  few = few _ c.in-ok-check-form.ensures;
-  senders = knows _ _ c.in-ok-check-lists.ensures c.senders-of-senders.ensures;
+pub check_links-requires : goal.check_links-requires
+check_links-requires c = record {
+  few = few _ c.in_ok-check_form.ensures;
+  senders = knows _ _ c.in_ok-check_lists.ensures c.senders_of-senders.ensures;
 }
 
-pub add-tasks-requires : goal.add-tasks-requires
-add-tasks-requires c = record {
-  few = few _ c.in-ok-check-form.ensures;
-  timely = (listed c.args.words.now (verdict_ok _ c.in-ok-check-lists.ensures)).timely;
+pub add_tasks-requires : goal.add_tasks-requires
+add_tasks-requires c = record {
+  few = few _ c.in_ok-check_form.ensures;
+  timely = (listed c.args.words.now (verdict_ok _ c.in_ok-check_lists.ensures)).timely;
   new = c.clear.ensures;
 }
 
-pub add-links-requires : goal.add-links-requires
-add-links-requires c = record {
-  few = few _ c.in-ok-check-form.ensures;
-  senders = knows _ _ c.in-ok-check-lists.ensures c.senders-of-senders.ensures;
-  allowed = verdict_ok _ c.in-ok-check-links.ensures;
-  tasks = c.add-tasks.ensures;
+pub add_links-requires : goal.add_links-requires
+add_links-requires c = record {
+  few = few _ c.in_ok-check_form.ensures;
+  senders = knows _ _ c.in_ok-check_lists.ensures c.senders_of-senders.ensures;
+  allowed = verdict_ok _ c.in_ok-check_links.ensures;
+  tasks = c.add_tasks.ensures;
 }

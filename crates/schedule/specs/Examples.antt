@@ -1,7 +1,5 @@
 -- A small job placed by hand.
-use Rattle.std.specs.Prelude.{◌≡◌, ℕ, cond, List, [], ◌∷◌, slice_index}
-use Rattle.chains.specs.declared.message.Message.{Message}
-use Rattle.machine.specs.declared.figures.Figures.{Figures}
+use Rattle.std.specs.Prelude.{◌≡◌, ℕ, [], ◌∷◌, slice_index}
 use Rattle.machine.specs.Model.{Model}
 use Rattle.machine.specs.Kinds.{bus_model}
 use Rattle.schedule.specs.declared.rows.Row.{Row}

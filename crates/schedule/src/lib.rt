@@ -1,4 +1,6 @@
 // Placing blocks on the processors of a machine, and what a schedule is.
+#![tactic(auto)]
+
 mod board;
 pub mod examples;
 pub mod order;

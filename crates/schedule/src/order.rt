@@ -32,7 +32,7 @@ impl Rank {
 
 // Whether block a, of the one standing, is earlier in the order than block b, of the other.
 pub fn is_earlier<O: Priority>(priority: &O, one: Standing, other: Standing, a: u64, b: u64) -> bool
-    ensures { (standing : ℕ → Known) → standing a ≡ one → standing b ≡ other → result ≡ earlier (meaning priority.now) standing a b }
+    ensures { (standing : ℕ → Known) → standing a ≡ one → standing b ≡ other → result ≡ earlier (O.meaning priority.now) standing a b }
 {
     match priority.compare(one, other) {
         Rank::Ahead => true,

@@ -56,14 +56,14 @@ fn note(board: &mut Board, row: &Row)
 
 // The board with the row, and with all that its block sends.
 pub(crate) fn add_row<M: Machine>(problem: &Problem, machine: &M, board: &mut Board, row: &Row)
-    requires shows { Shows (meaning machine.now) (seen problem.now) board.old }
+    requires shows { Shows (M.meaning machine.now) (seen problem.now) board.old }
     requires room { board.old.count < 256 }
     requires block { row.now.block ≤ 256 }
-    requires processor { row.now.processor < (meaning machine.now).processors }
+    requires processor { row.now.processor < (M.meaning machine.now).processors }
     requires finish { row.now.finish ≤ limit (board.old.count + 1) }
     ensures rows { laid board.new ≡ laid board.old ++ row.now ∷ [] }
     ensures count { board.new.count ≡ board.old.count + 1 }
-    ensures shows { Shows (meaning machine.now) (seen problem.now) board.new }
+    ensures shows { Shows (M.meaning machine.now) (seen problem.now) board.new }
 {
     note(board, row);
     send(machine, problem.messages, row, &mut board.arrivals);

@@ -36,7 +36,7 @@ fn standing_of(problem: &Problem, block: u64) -> Standing
 
 // Whether one block is earlier in the order than another.
 fn is_earlier_block<O: Priority>(problem: &Problem, priority: &O, one: u64, other: u64) -> bool
-    ensures { result ≡ earlier (meaning priority.now) (standing_in problem.now) one other }
+    ensures { result ≡ earlier (O.meaning priority.now) (standing_in problem.now) one other }
 {
     is_earlier(
         priority,
@@ -49,7 +49,7 @@ fn is_earlier_block<O: Priority>(problem: &Problem, priority: &O, one: u64, othe
 
 // Whether one row comes before another: it starts sooner, or at the same time and its block is earlier in the order.
 fn comes_before<O: Priority>(problem: &Problem, priority: &O, one: &Row, other: &Row) -> bool
-    ensures { result ≡ comes_before (earlier (meaning priority.now) (standing_in problem.now)) one.now other.now }
+    ensures { result ≡ comes_before (earlier (O.meaning priority.now) (standing_in problem.now)) one.now other.now }
 {
     if one.start == other.start {
         is_earlier_block(problem, priority, one.block, other.block)
@@ -65,7 +65,7 @@ fn first_of_two<O: Priority>(
     best: Option<Row>,
     row: Row,
 ) -> Option<Row>
-    ensures { result ≡ first_of_two (earlier (meaning priority.now) (standing_in problem.now)) best row }
+    ensures { result ≡ first_of_two (earlier (O.meaning priority.now) (standing_in problem.now)) best row }
 {
     match best {
         None => Some(row),
@@ -87,11 +87,11 @@ fn start_on<M: Machine>(
     block: u32,
     processor: u32,
 ) -> u64
-    requires shows { Shows (meaning machine.now) (seen problem.now) board.now }
-    requires few { (meaning machine.now).processors ≤ 32 }
+    requires shows { Shows (M.meaning machine.now) (seen problem.now) board.now }
+    requires few { (M.meaning machine.now).processors ≤ 32 }
     requires known { block ≤ 256 }
-    requires exists { processor < (meaning machine.now).processors }
-    ensures { result ≡ start_on (meaning machine.now) (seen problem.now) (laid board.now) block processor }
+    requires exists { processor < (M.meaning machine.now).processors }
+    ensures { result ≡ start_on (M.meaning machine.now) (seen problem.now) (laid board.now) block processor }
 {
     let free = board.free[processor as usize];
     free.max(board.arrivals[block as usize][processor as usize])
@@ -99,7 +99,7 @@ fn start_on<M: Machine>(
 
 // What is sooner: the best so far, or a start on one processor more.
 fn sooner(best: (u64, u32), start: u64, processor: u32) -> (u64, u32)
-    ensures { result ≡ (if nat_lt start best.0 then start, processor else best) }
+    ensures { result ≡ (if nat_lt start best.0 then (start, processor) else best) }
 {
     if start < best.0 {
         (start, processor)
@@ -110,13 +110,13 @@ fn sooner(best: (u64, u32), start: u64, processor: u32) -> (u64, u32)
 
 // The earliest start of a block, and the lowest processor that has it.
 fn earliest<M: Machine>(problem: &Problem, machine: &M, board: &Board, block: u32) -> (u64, u32)
-    requires shows { Shows (meaning machine.now) (seen problem.now) board.now }
-    requires some { 1 ≤ (meaning machine.now).processors }
-    requires few { (meaning machine.now).processors ≤ 32 }
+    requires shows { Shows (M.meaning machine.now) (seen problem.now) board.now }
+    requires some { 1 ≤ (M.meaning machine.now).processors }
+    requires few { (M.meaning machine.now).processors ≤ 32 }
     requires known { block ≤ 256 }
-    ensures value { result ≡ earliest (meaning machine.now) (seen problem.now) (laid board.now) block }
+    ensures value { result ≡ earliest (M.meaning machine.now) (seen problem.now) (laid board.now) block }
     ensures soon { result.0 ≤ limit board.now.count + 1000000000 }
-    ensures exists { result.1 < (meaning machine.now).processors }
+    ensures exists { result.1 < (M.meaning machine.now).processors }
 {
     let mut best = (start_on(problem, machine, board, block, 0), 0);
     for processor in 1..machine.processors() {
@@ -151,13 +151,13 @@ fn fed_blocks(problem: &Problem, board: &Board) -> [bool; 257]
 
 // The row of a block at its earliest start.
 fn row_of<M: Machine>(problem: &Problem, machine: &M, board: &Board, block: u32) -> Row
-    requires shows { Shows (meaning machine.now) (seen problem.now) board.now }
-    requires some { 1 ≤ (meaning machine.now).processors }
-    requires few { (meaning machine.now).processors ≤ 32 }
+    requires shows { Shows (M.meaning machine.now) (seen problem.now) board.now }
+    requires some { 1 ≤ (M.meaning machine.now).processors }
+    requires few { (M.meaning machine.now).processors ≤ 32 }
     requires known { block ≤ 256 }
     requires brief { slice_index problem.now.times.now block < 2 ^ 40 }
-    ensures value { result ≡ row_of (meaning machine.now) (seen problem.now) (laid board.now) block }
-    ensures processor { result.processor < (meaning machine.now).processors }
+    ensures value { result ≡ row_of (M.meaning machine.now) (seen problem.now) (laid board.now) block }
+    ensures processor { result.processor < (M.meaning machine.now).processors }
     ensures finish { result.finish ≤ limit (board.now.count + 1) }
 {
     let (start, processor) = earliest(problem, machine, board, block);

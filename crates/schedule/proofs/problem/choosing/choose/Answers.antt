@@ -6,8 +6,8 @@ use Rattle.schedule.specs.Seen.{seen, standing_in}
 use Rattle.schedule.proofs.Choosing.{among_more, among_all}
 use Rattle.schedule.proofs.problem.choosing.choose.Goals as goal
 
-pub with-block-best-requires : goal.with-block-best-requires
-with-block-best-requires g c =
+pub with_block-best-requires : goal.with_block-best-requires
+with_block-best-requires g c =
     let law = g.met.M.Machine.lawful c.args.machine.now in
     let p = c.args.problem.now in
     let i = in_getD p.blocks.now c.loop-block.block-index 0 c.loop-block-test.true in
@@ -17,7 +17,7 @@ with-block-best-requires g c =
       few = law.few;
       known = (p.numbered _ i).1;
       brief = p.brief _ i;
-      feeds = c.fed-blocks-fed.ensures _ (p.numbered _ i).1;
+      feeds = c.fed_blocks-fed.ensures _ (p.numbered _ i).1;
       fits = c.loop-block.invariant.1;
     }
 
@@ -27,9 +27,9 @@ loop-block-preserved g c =
     let p = c.args.problem.now in
     let e = earlier (g.O.Priority.meaning c.args.priority.now) (standing_in p) in
     let rows = laid c.args.board.now in (
-      among_more M (seen p) e rows p.blocks.now c.loop-block.block-index c.loop-block-test.true c.loop-block.best c.with-block-best.result (chosen M (seen p) e rows)
-          c.with-block-best.ensures.value c.loop-block.invariant.0,
-      c.with-block-best.ensures.fits,
+      among_more M (seen p) e rows p.blocks.now c.loop-block.block-index c.loop-block-test.true c.loop-block.best c.with_block-best.result (chosen M (seen p) e rows)
+          c.with_block-best.ensures.value c.loop-block.invariant.0,
+      c.with_block-best.ensures.fits,
     )
 
 pub returns : goal.returns

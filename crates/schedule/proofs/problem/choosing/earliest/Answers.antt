@@ -9,7 +9,7 @@ pub loop-processor-preserved : goal.loop-processor-preserved
 loop-processor-preserved g c =
     let M = g.M.Machine.meaning c.args.machine.now in
     earliest_more M (seen c.args.problem.now) (laid c.args.board.now) c.args.block c.loop-processor.processor c.loop-processor.auto.processor
-    c.loop-processor.best c.loop-processor.invariant c.start-on-start.result c.start-on-start.ensures c.sooner-best.result c.sooner-best.ensures
+    c.loop-processor.best c.loop-processor.invariant c.start_on-start.result c.start_on-start.ensures c.sooner-best.result c.sooner-best.ensures
 
 pub returns : goal.returns
 returns g c =

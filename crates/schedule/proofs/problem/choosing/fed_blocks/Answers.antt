@@ -11,8 +11,8 @@ use Rattle.schedule.proofs.problem.choosing.fed_blocks.Goals as goal
 pub loop-message-init : goal.loop-message-init
 loop-message-init c = λ b lb. get_or-replicate 257 b true false (omega (arith, lb))
 
-pub wait-for-requires : goal.wait-for-requires
-wait-for-requires c =
+pub wait_for-requires : goal.wait_for-requires
+wait_for-requires c =
     let p = c.args.problem.now in
     let i = in_getD p.messages.now c.loop-message.message-index (record { from = 0; to = 0; size = 0 }) c.loop-message-test.true in
     record { from = from_low p _ i; to = to_low p _ i }
@@ -26,7 +26,7 @@ loop-message-preserved c =
     let m = get_or ms i none in
     let at = in_getD ms i none c.loop-message-test.true in
     λ b lb.
-    fed_more ms (laid c.args.board.now) b i none c.loop-message-test.true _ _ _ (c.requires.marks m.from (from_low p m at)) (c.loop-message.invariant b lb) (c.wait-for.ensures b lb)
+    fed_more ms (laid c.args.board.now) b i none c.loop-message-test.true _ _ _ (c.requires.marks m.from (from_low p m at)) (c.loop-message.invariant b lb) (c.wait_for.ensures b lb)
 
 pub returns : goal.returns
 returns c = λ b lb.

@@ -10,6 +10,6 @@ abbrev pub invariant-loop-step : goal.invariant-loop-step
 invariant-loop-step g l =
     let M = g.M.Machine.meaning l.machine in
     let p = l.problem in
-    (laid l.board ≡ placed M (seen p) (earlier (g.O.Priority.meaning l.priority) (standing_in p)) l.-step)
-    × (l.board.count ≤ l.-step)
+    (laid l.board ≡ placed M (seen p) (earlier (g.O.Priority.meaning l.priority) (standing_in p)) l._step)
+    × (l.board.count ≤ l._step)
     × Shows M (seen p) l.board

@@ -1,6 +1,7 @@
 // The work, the critical path and the cost of a partition on a machine.
-ghost use Rattle.std.specs.Prelude.{◌≡◌, ℕ, ◌*◌, ◌^◌, ◌<◌, ◌≤◌, max, length};
+ghost use Rattle.std.specs.Prelude.{◌≡◌, ℕ, ◌*◌, ◌^◌, ◌<◌, ◌≤◌, max, length, List};
 ghost use Rattle.chains.specs.Lists.{total, greatest};
+ghost use Rattle.chains.specs.declared.message.Message.{Message};
 ghost use Rattle.partition.specs.Blocks.{block_list, messages, EachBlock};
 ghost use Rattle.partition.specs.Costs.{work, at_blocks, level_at, critical_path, cost};
 ghost use Rattle.partition.specs.Greatest.{GreatestOver};
@@ -29,7 +30,8 @@ fn sum_at(blocks: &[u32], table: &[u64; 257]) -> u64
 // where they are delays.
 pub(crate) fn greatest_at(blocks: &[u32], table: &[u64; 257]) -> u64
     requires few { length blocks.now ≤ 256 }
-    ensures { (f : ℕ → ℕ) → AtEach (at_blocks f (block_list blocks.now)) table.now → result ≡ greatest f (block_list blocks.now) }
+    ensures path { (f : ℕ → ℕ) (ms : List Message) → AtEach (level_at f ms (block_list blocks.now)) table.now → result ≡ critical_path f ms (block_list blocks.now) }
+    ensures any { (f : ℕ → ℕ) → AtEach (at_blocks f (block_list blocks.now)) table.now → result ≡ greatest f (block_list blocks.now) }
 {
     let mut most = 0;
     for i in 0..blocks.len() {

@@ -1,6 +1,5 @@
-use Rattle.std.proofs.Common.{length, arith}
+use Rattle.std.proofs.Common.{arith}
 use Rattle.partition.specs.Blocks.{messages, block_list}
-use Rattle.partition.specs.Costs.{level}
 use Rattle.partition.specs.Times.{block_time}
 use Rattle.partition.proofs.Costing.{path_le, times_room, small_times, blocks_few, product_fits}
 use Rattle.partition.proofs.partition.Partition.cost_by.Goals as goal
@@ -19,6 +18,6 @@ larger-requires g c =
     let bs = p.blocks.now in
     let ms = messages p.links.now bs in
     let time = block_time m p.tasks.now bs ms in
-    let path = c.greatest_at-path.ensures (level time ms (length (block_list bs))) c.requires.levels in
+    let path = c.greatest_at-path.ensures.path time ms c.requires.levels in
     let le = path_le time (small_times p m law) ms (block_list bs) (blocks_few p) in
     record { fits = product_fits c.processors.result c.greatest_at-path.result (omega (arith, c.processors.ensures, law.few)) (omega (arith, path, le)) }

@@ -1,7 +1,9 @@
-use Rattle.std.proofs.Common.{◌≡◌, length, ap, ◌∙◌, arith}
+use Rattle.std.proofs.Common.{◌≡◌, ℕ, length, ap, ◌∙◌, arith}
 use Rattle.chains.specs.Lists.{greatest}
 use Rattle.chains.specs.Sums.{time_in}
-use Rattle.partition.specs.Blocks.{blocks_among}
+use Rattle.partition.specs.Blocks.{block_list, blocks_among}
+use Rattle.partition.specs.Costs.{at_blocks, level}
+use Rattle.partition.specs.Times.{AtEach}
 use Rattle.partition.proofs.Costing.{most_is}
 use Rattle.partition.proofs.Figuring.{most_own, most_other}
 use Rattle.partition.proofs.partition.costs.greatest_at.Goals as goal
@@ -22,4 +24,6 @@ returns c =
     let bs = c.args.blocks.now in
     let t = c.args.table.now in
     let e : c.loop-i.i ≡ length bs = omega (arith, c.loop-i-test.false, c.loop-i.auto.i-end) in
-    λ f at. c.loop-i.invariant ∙ ap (λ n. greatest (time_in t) (blocks_among bs n)) e ∙ most_is bs c.requires.few f t at
+    let most : (f : ℕ → ℕ) → AtEach (at_blocks f (block_list bs)) t → c.loop-i.most ≡ greatest f (block_list bs)
+    = λ f at. c.loop-i.invariant ∙ ap (λ n. greatest (time_in t) (blocks_among bs n)) e ∙ most_is bs c.requires.few f t at in
+    record { path = λ f ms at. most (level f ms (length (block_list bs))) at; any = most }

@@ -1,4 +1,6 @@
 // Takes a logger's job in from standard input and prints what was done with it, or why it is refused.
+#![tactic(auto)]
+
 mod print;
 
 use planner::intake::take_in;

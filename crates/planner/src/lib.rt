@@ -1,4 +1,6 @@
 // A task graph with its stage and blocks, and the calls on it.
+#![tactic(auto)]
+
 pub mod examples;
 pub mod intake;
 pub mod intake_refusal;

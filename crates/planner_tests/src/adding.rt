@@ -1,5 +1,6 @@
 use crate::support::*;
 use planner::task_graph::TaskGraph;
+use std::test::Fail;
 
 #[test]
 fn a_time_is_1_to_a_million(rt: HostRuntime) -> Result<(), Fail> {

@@ -1,6 +1,7 @@
 use crate::support::*;
 use planner::records::Stage;
 use planner::task_graph::TaskGraph;
+use std::test::Fail;
 
 #[test]
 fn a_graph_without_a_task_is_not_closed(rt: HostRuntime) -> Result<(), Fail> {
@@ -44,7 +45,7 @@ fn every_task_becomes_a_block_of_its_own(rt: HostRuntime) -> Result<(), Fail> {
     assert_eq!(rt; graph.blocks().len(), 0);
     assert_eq!(rt; graph.close()?, 4);
     assert_eq!(rt; graph.stage(), Stage::Closed);
-    assert_eq!(rt; graph.blocks(), &[1, 2, 3, 4]);
+    assert_eq!(rt; graph.blocks(), [1, 2, 3, 4].as_slice());
     Ok(())
 }
 

@@ -1,4 +1,6 @@
 // Tests of the calls on a task graph.
+#![tactic(auto)]
+
 #[cfg(test)]
 mod adding;
 #[cfg(test)]

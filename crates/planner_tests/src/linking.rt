@@ -3,6 +3,7 @@ use graph::records::Link;
 use planner::task_graph::TaskGraph;
 use std::alloc::Global;
 use std::process::Abort;
+use std::test::Fail;
 
 // Each call on a graph of three tasks with a link from 1 to 2, and the number and place of its refusal.
 const REFUSED: [(u32, u32, u32, u32, u32); 12] = [

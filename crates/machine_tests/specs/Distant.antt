@@ -1,5 +1,5 @@
 -- A machine near the limit of delays. Assumes nothing.
-use Rattle.std.specs.Prelude.{ℕ, cond, ◌==◌}
+use Rattle.std.specs.Prelude.{cond, ◌==◌}
 use Rattle.machine.specs.Model.{Model}
 
 -- two processors, 999,999,998 from one to the other, and no other times

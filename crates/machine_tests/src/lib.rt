@@ -1,4 +1,6 @@
 // Tests of the machines, and that another crate can use what their contracts say and have a machine of its own.
+#![tactic(auto)]
+
 pub mod distant;
 #[cfg(test)]
 mod figures;

@@ -6,6 +6,6 @@ pub returns : goal.returns
 returns c =
     let w = c.args.network.now in
     record {
-      found = λ b i. c.best-from-each.ensures.bests.values b 0 i ∙ best_counts w.messages.now (length w.order.now) b;
-      kept = λ b no. c.best-from-each.ensures.bests.kept b 0 no;
+      found = λ b i. c.best_from_each.ensures.bests.values b 0 i ∙ best_counts w.messages.now (length w.order.now) b;
+      kept = λ b no. c.best_from_each.ensures.bests.kept b 0 no;
     }

@@ -1,8 +1,7 @@
-use Rattle.std.proofs.Common.{◌≡◌}
 use Rattle.chains.specs.Chains.{Ordered}
 use Rattle.chains_tests.proofs.tests.asked.Goals as goal
 
-pub invariant-of-network : goal.invariant-of-network
-invariant-of-network c =
-    let o : Ordered c.args.messages.now c.args.order.now = c.is-processing-order.ensures.0 c.if-not-is-processing-order.false in
-    (o.few, (o.short, (o.blocks, (o.once, (o.forward, tt)))))
+pub invariant_of-network : goal.invariant_of-network
+invariant_of-network c =
+    let o : Ordered c.args.messages.now c.args.order.now = c.is_processing_order.ensures.0 c.if-not-is_processing_order.false in
+    record { few = o.few; short = o.short; blocks = o.blocks; once = o.once; forward = o.forward }

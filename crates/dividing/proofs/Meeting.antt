@@ -11,7 +11,7 @@ use Rattle.partition.proofs.Counting.{of_among, in_among, apart_among, no_longer
 use Rattle.partition.proofs.Places.{in_kept, of_kept}
 use Rattle.dividing.specs.Firsts.{first_least_of}
 use Rattle.dividing.specs.Dividing.{cost_of, joined_to, heaviest, others, best_partner, next, later, met, divided}
-use Rattle.dividing.specs.Laws.{Heaviest, Partner, ComesNext, Goes_on, MetRightly, Divides}
+use Rattle.dividing.specs.Laws.{Heaviest, Partner, ComesNext, GoesOn, MetRightly, Divides}
 use Rattle.dividing.proofs.Firsts.{Chosen, Rising, rising_append, first_chosen, chosen_in, chosen_first, greatest_ranks, least_ranks}
 use Rattle.dividing.proofs.Steps.{Fit, Standing, standing_partitions, standing_convex, standing_after, fewer}
 
@@ -139,14 +139,14 @@ module _ (m : Model) (net : Net) (fit : Fit net) where
   later_none zero p few = refl
   later_none (suc n) p few = cond-false (ltb 1 (length (block_list p))) (next m net p ∷ later m net n (next m net p)) [] (le-ltb 1 (length (block_list p)) few)
 
-  pub goes_on : (n : ℕ) (p : List ℕ) → Standing net p → length (block_list p) ≤ suc n → Goes_on m net p (later m net n p)
+  pub goes_on : (n : ℕ) (p : List ℕ) → Standing net p → length (block_list p) ≤ suc n → GoesOn m net p (later m net n p)
   goes_on zero p s few = few
   goes_on (suc n) p s few =
       ⊎_elim
       (λ (several : 1 < length (block_list p)).
-      subst (Goes_on m net p) (sym (later_some n p several))
+      subst (GoesOn m net p) (sym (later_some n p several))
       (comes_next p s several, goes_on n (next m net p) (next_standing p s several) (omega (arith, next_fewer p s several))))
-      (λ (single : length (block_list p) ≤ 1). subst (Goes_on m net p) (sym (later_none (suc n) p single)) single)
+      (λ (single : length (block_list p) ≤ 1). subst (GoesOn m net p) (sym (later_none (suc n) p single)) single)
       (cases_lt 1 (length (block_list p)))
 
   -- as many steps as there are blocks are as good as any more

@@ -30,14 +30,14 @@ pub record ComesNext (m : Model) (net : Net) (p q : List ℕ) : Type 0 where
   pub result : q ≡ joined_to net p heavy joined
 
 -- from p on these partitions come in turn, each from the one before it, until no more than one block is left
-abbrev pub Goes_on : Model → Net → List ℕ → List (List ℕ) → Type 0
-Goes_on m net p [] = length (block_list p) ≤ 1
-Goes_on m net p (q ∷ rest) = ComesNext m net p q × Goes_on m net q rest
+abbrev pub GoesOn : Model → Net → List ℕ → List (List ℕ) → Type 0
+GoesOn m net p [] = length (block_list p) ≤ 1
+GoesOn m net p (q ∷ rest) = ComesNext m net p q × GoesOn m net q rest
 
 -- the partitions met are the start, and then those that come in turn
 abbrev pub MetRightly : Model → Net → List ℕ → List (List ℕ) → Type 0
 MetRightly m net start [] = ⊥
-MetRightly m net start (p ∷ rest) = (p ≡ start) × Goes_on m net p rest
+MetRightly m net start (p ∷ rest) = (p ≡ start) × GoesOn m net p rest
 
 -- the result is one of the partitions met; every one met before it is dearer, and none is cheaper; no path from block to
 -- block returns to a block that it left; its blocks are numbered by their least tasks; and it costs no more than the start

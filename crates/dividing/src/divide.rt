@@ -33,7 +33,7 @@ fn after<'a, M: Machine>(
 ) -> Option<Divided>
     requires held { Held tasks.now links.now }
     requires sorted { Sorted (length tasks.now) links.now (blocks_in joined.now) (order_in joined.now) }
-    ensures { MatchOption result (length (block_list (blocks_in joined.now)) ≤ 1) (NextMet (meaning machine.now) (record { tasks = tasks.entry.now; links = links.now }) (blocks_in joined.now)) }
+    ensures { MatchOption result (length (block_list (blocks_in joined.now)) ≤ 1) (NextMet (M.meaning machine.now) (record { tasks = tasks.now; links = links.now }) (blocks_in joined.now)) }
 {
     let partition = in_blocks(tasks, links, joined);
     step(&partition, machine)
@@ -41,7 +41,7 @@ fn after<'a, M: Machine>(
 
 // The partitions met are gone through down to one block, and the earliest cheapest is kept.
 fn run<M: Machine>(partition: &Partition<'_>, machine: &M) -> Divided
-    ensures { Kept (meaning machine.now) (net_of partition.now) (blocks_of partition.now) result }
+    ensures { Kept (M.meaning machine.now) (net_of partition.now) (blocks_of partition.now) result }
 {
     let mut present = in_tables(partition);
     let mut best = Divided {
@@ -57,18 +57,18 @@ fn run<M: Machine>(partition: &Partition<'_>, machine: &M) -> Divided
 
 // What holds of the partitions that are met, and of the one that is kept.
 fn promises<M: Machine>(partition: &Partition<'_>, machine: &M, kept: &Divided)
-    requires kept { Kept (meaning machine.now) (net_of partition.now) (blocks_of partition.now) kept.now }
-    ensures met { MetRightly (meaning machine.now) (net_of partition.now) (blocks_of partition.now) (met (meaning machine.now) (net_of partition.now) (blocks_of partition.now)) }
-    ensures divides { Divides (meaning machine.now) (net_of partition.now) (blocks_of partition.now) (blocks_in kept.now.joined) }
+    requires kept { Kept (M.meaning machine.now) (net_of partition.now) (blocks_of partition.now) kept.now }
+    ensures met { MetRightly (M.meaning machine.now) (net_of partition.now) (blocks_of partition.now) (met (M.meaning machine.now) (net_of partition.now) (blocks_of partition.now)) }
+    ensures divides { Divides (M.meaning machine.now) (net_of partition.now) (blocks_of partition.now) (blocks_in kept.now.joined) }
 {}
 
 // A partition is divided: while more than one block is left, the block with the greatest overhead is joined to the block
 // with which the partition then costs least, ties to the least number; of the partitions met, the start included, the
 // earliest with the least cost is the result.
 pub fn divide<M: Machine>(partition: &Partition<'_>, machine: &M) -> Divided
-    ensures kept { Kept (meaning machine.now) (net_of partition.now) (blocks_of partition.now) result }
-    ensures met { MetRightly (meaning machine.now) (net_of partition.now) (blocks_of partition.now) (met (meaning machine.now) (net_of partition.now) (blocks_of partition.now)) }
-    ensures divides { Divides (meaning machine.now) (net_of partition.now) (blocks_of partition.now) (blocks_in result.joined) }
+    ensures kept { Kept (M.meaning machine.now) (net_of partition.now) (blocks_of partition.now) result }
+    ensures met { MetRightly (M.meaning machine.now) (net_of partition.now) (blocks_of partition.now) (met (M.meaning machine.now) (net_of partition.now) (blocks_of partition.now)) }
+    ensures divides { Divides (M.meaning machine.now) (net_of partition.now) (blocks_of partition.now) (blocks_in result.joined) }
 {
     let kept = run(partition, machine);
     promises(partition, machine, &kept);

@@ -38,7 +38,7 @@ fn heaviest_in(blocks: &[u32], table: &[u64; 257]) -> u32
 
 // The block with the greatest overhead on the machine, of several the one with the least number.
 pub fn heaviest<M: Machine>(partition: &Partition<'_>, machine: &M) -> u32
-    ensures { result ≡ heaviest (meaning machine.now) (net_of partition.now) (blocks_of partition.now) }
+    ensures { result ≡ heaviest (M.meaning machine.now) (net_of partition.now) (blocks_of partition.now) }
 {
     heaviest_in(partition.blocks, &partition.overheads(machine))
 }

@@ -1,4 +1,6 @@
 // Dividing: joining the heaviest block again and again, and keeping the earliest cheapest partition.
+#![tactic(auto)]
+
 mod choice;
 pub mod divide;
 pub mod divided;

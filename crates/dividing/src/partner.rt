@@ -39,7 +39,7 @@ fn cost_in<'a, M: Machine>(
 ) -> u64
     requires held { Held tasks.now links.now }
     requires sorted { Sorted (length tasks.now) links.now (blocks_in joined.now) (order_in joined.now) }
-    ensures { result ≡ cost_of (meaning machine.now) (record { tasks = tasks.entry.now; links = links.now }) (blocks_in joined.now) }
+    ensures { result ≡ cost_of (M.meaning machine.now) (record { tasks = tasks.now; links = links.now }) (blocks_in joined.now) }
 {
     let partition = in_blocks(tasks, links, joined);
     partition.cost(machine)
@@ -48,7 +48,7 @@ fn cost_in<'a, M: Machine>(
 // What the partition after joining two blocks costs.
 fn price<M: Machine>(reach: &Reach<'_>, machine: &M, one: u32, other: u32) -> u64
     requires known { both_blocks (blocks_of reach.now.partition) one other ≡ true }
-    ensures { result ≡ cost_of (meaning machine.now) (net_of reach.now.partition) (joined_to (net_of reach.now.partition) (blocks_of reach.now.partition) one other) }
+    ensures { result ≡ cost_of (M.meaning machine.now) (net_of reach.now.partition) (joined_to (net_of reach.now.partition) (blocks_of reach.now.partition) one other) }
 {
     match reach.join(one, other) {
         Some(joined) => cost_in(
@@ -65,7 +65,7 @@ fn price<M: Machine>(reach: &Reach<'_>, machine: &M, one: u32, other: u32) -> u6
 // with that cost.
 pub(crate) fn best_partner<M: Machine>(reach: &Reach<'_>, machine: &M, heavy: u32) -> Option<Choice>
     requires known { has heavy (block_list (blocks_of reach.now.partition)) ≡ true }
-    ensures { result ≡ cheapest (λ b. cost_of (meaning machine.now) (net_of reach.now.partition) (joined_to (net_of reach.now.partition) (blocks_of reach.now.partition) heavy b)) (others heavy (blocks_of reach.now.partition)) }
+    ensures { result ≡ cheapest (λ b. cost_of (M.meaning machine.now) (net_of reach.now.partition) (joined_to (net_of reach.now.partition) (blocks_of reach.now.partition) heavy b)) (others heavy (blocks_of reach.now.partition)) }
 {
     let blocks = reach.partition.blocks;
     let mut best = None;

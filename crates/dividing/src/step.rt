@@ -13,7 +13,7 @@ use partition::partition::Partition;
 
 // The heaviest block joined to its best partner; nothing where no more than one block is left.
 pub(crate) fn step<M: Machine>(partition: &Partition<'_>, machine: &M) -> Option<Divided>
-    ensures { MatchOption result (length (block_list (blocks_of partition.now)) ≤ 1) (NextMet (meaning machine.now) (net_of partition.now) (blocks_of partition.now)) }
+    ensures { MatchOption result (length (block_list (blocks_of partition.now)) ≤ 1) (NextMet (M.meaning machine.now) (net_of partition.now) (blocks_of partition.now)) }
 {
     if partition.order.len() <= 1 {
         return None;

@@ -1,4 +1,6 @@
 // Joining two blocks with all blocks on paths between them.
+#![tactic(auto)]
+
 pub mod examples;
 pub mod joined;
 pub mod reach;

@@ -1,12 +1,12 @@
 -- The list of all blocks, and how many there are.
-use Rattle.std.proofs.Common.{◌≡◌, ℕ, zero, suc, ◌+◌, ◌-◌, ◌<◌, ◌≤◌, Bool, true, false, cond, not, eqb, ◌⊎◌, List, [], ◌∷◌, ◌++◌, length, filter, sym, refl, ap, ◌∙◌, subst, inl, inr, ⊎_elim, arith}
-use Rattle.std.proofs.lemmas.Bool.{cases_eq, cases_Bool, eq-eqb, ne_eqb, eqb-true, cond-true, cond-false}
+use Rattle.std.proofs.Common.{◌≡◌, ℕ, zero, suc, ◌<◌, ◌≤◌, Bool, false, cond, not, eqb, List, [], ◌∷◌, length, filter, sym, refl, ap, subst, inl, inr, ⊎_elim, arith}
+use Rattle.std.proofs.lemmas.Bool.{cases_eq, cases_Bool, eq-eqb, ne_eqb, cond-true, cond-false}
 use Rattle.chains.specs.Chains.{place, Once}
 use Rattle.chains.specs.Lists.{In, Apart}
 use Rattle.chains.proofs.Lists.{in_left, in_right, in_append, apart_append, once_apart, place_in}
 use Rattle.partition.specs.Blocks.{block_of, blocks_among, block_list}
 use Rattle.partition.specs.Views.{Listed, Numbered}
-use Rattle.partition.proofs.Places.{in_kept, of_kept}
+use Rattle.partition.proofs.Places.{in_kept}
 
 abbrev one : List ℕ → ℕ → List ℕ
 one blocks b = cond (eqb (block_of blocks b) b) (b ∷ []) []

@@ -1,12 +1,11 @@
 -- The messages of a partition go between blocks of its tasks, and a machine answers for their sizes.
-use Rattle.std.proofs.Common.{◌≡◌, ℕ, ◌<◌, ◌≤◌, List, [], ◌∷◌, length, get_or, sym, refl, ap, ◌∙◌, subst, arith}
+use Rattle.std.proofs.Common.{◌≡◌, ℕ, ◌≤◌, List, length, sym, subst, arith}
 use Rattle.graph.specs.declared.records.Link.{Link}
 use Rattle.graph.specs.Net.{no_link, Joined, Sized}
 use Rattle.chains.specs.declared.message.Message.{Message}
 use Rattle.chains.specs.Chains.{Ordered}
-use Rattle.chains.specs.Lists.{In}
 use Rattle.chains.proofs.Lists.{in_index}
-use Rattle.partition.specs.Blocks.{block_of, messages}
+use Rattle.partition.specs.Blocks.{messages}
 use Rattle.partition.specs.Times.{Handled}
 use Rattle.partition.specs.Views.{Least}
 use Rattle.partition.specs.declared.partition.Partition.{Partition}

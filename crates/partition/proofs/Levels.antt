@@ -1,15 +1,15 @@
 -- The greatest over the chains from a block, as the levels ask for it.
-use Rattle.std.proofs.Common.{◌≡◌, ℕ, ◌+◌, ◌^◌, ◌<◌, ◌≤◌, max, Bool, true, false, cond, ◌⊎◌, List, [], ◌∷◌, length, get_or, replicate, sym, refl, ap, ◌∙◌, subst, inl, inr, ⊎_elim, arith}
+use Rattle.std.proofs.Common.{◌≡◌, ℕ, ◌^◌, ◌<◌, ◌≤◌, true, false, List, [], ◌∷◌, length, get_or, replicate, sym, refl, ap, ◌∙◌, subst, inl, inr, ⊎_elim, arith}
 use Rattle.std.proofs.lemmas.Bool.{cases_Bool, cond-true, cond-false}
 use Rattle.chains.specs.declared.message.Message.{Message}
-use Rattle.chains.specs.Chains.{Step, Follows, Ordered, Enumerates, chains, has, place}
+use Rattle.chains.specs.Chains.{Follows, Ordered, Enumerates, chains, has, place}
 use Rattle.chains.specs.Lists.{In, total, greatest}
 use Rattle.chains.specs.Sums.{GreatestFrom, GreatestAtEach, SmallTimes, time_in}
-use Rattle.chains.proofs.Lists.{has_in, in_has, place_in, in_place, all_same}
+use Rattle.chains.proofs.Lists.{has_in, in_has, place_in, all_same}
 use Rattle.chains.proofs.Every.{enumerates, rises}
 use Rattle.chains.proofs.Greatest.{greatest_same}
 use Rattle.chains.proofs.Places.{cases_in}
-use Rattle.partition.specs.Blocks.{block_of, block_list}
+use Rattle.partition.specs.Blocks.{block_list}
 use Rattle.partition.specs.Costs.{at_blocks, level_at}
 use Rattle.partition.specs.Times.{AtEach}
 use Rattle.partition.specs.Views.{Listed, Numbered}

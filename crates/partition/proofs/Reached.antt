@@ -1,5 +1,5 @@
 -- Reach over steps is reflexive and transitive, and goes upward in a processing order.
-use Rattle.std.proofs.Common.{◌≡◌, ℕ, ◌≤◌, Bool, true, ◌⊎◌, List, [], ◌∷◌, Decides, refl, ap, subst, inl, inr, ⊎_elim, arith}
+use Rattle.std.proofs.Common.{◌≡◌, ℕ, ◌≤◌, Bool, true, List, [], ◌∷◌, Decides, refl, ap, subst, inl, inr, ⊎_elim, arith}
 use Rattle.chains.specs.declared.message.Message.{Message}
 use Rattle.chains.specs.Chains.{Step, Follows, ChainFrom, place, Ordered}
 use Rattle.chains.specs.Reach.{Reaches}

@@ -1,5 +1,5 @@
 -- Tables of sums, entry by entry.
-use Rattle.std.proofs.Common.{◌≡◌, ℕ, zero, suc, ◌+◌, ◌-◌, ◌*◌, ◌^◌, ◌<◌, ◌≤◌, Bool, true, false, cond, eqb, ◌⊎◌, List, [], ◌∷◌, ◌++◌, length, get_or, take, set, sym, refl, ap, ◌∙◌, subst, inl, inr, ⊎_elim, arith}
+use Rattle.std.proofs.Common.{◌≡◌, ℕ, zero, suc, ◌+◌, ◌-◌, ◌*◌, ◌^◌, ◌<◌, ◌≤◌, Bool, true, false, cond, eqb, List, [], ◌∷◌, ◌++◌, length, get_or, take, set, sym, refl, ap, ◌∙◌, subst, inl, inr, ⊎_elim, arith}
 use Rattle.std.proofs.lemmas.List.{take_more, take_all, length-set, get_or-set_same, get_or-set_other}
 use Rattle.std.proofs.lemmas.Bool.{cases_eq, eq-eqb, ne_eqb, cond-true, cond-false}
 use Rattle.chains.specs.declared.message.Message.{Message}
@@ -8,7 +8,6 @@ use Rattle.chains.proofs.Lists.{in_getD}
 use Rattle.machine.specs.Model.{Model, Lawful}
 use Rattle.graph.specs.declared.records.Task.{Task}
 use Rattle.graph.specs.Net.{no_task, Timed}
-use Rattle.partition.specs.Blocks.{block_of}
 use Rattle.partition.specs.Views.{Least}
 use Rattle.partition.specs.Times.{own_time, handling, overhead, block_time, Handled, Room}
 

@@ -1,5 +1,5 @@
 -- Partitions of tasks into blocks, and the messages between blocks.
-use Rattle.std.specs.Prelude.{◌≡◌, ℕ, zero, suc, ◌-◌, ◌<◌, ◌≤◌, Bool, cond, List, [], ◌∷◌, ◌++◌, length, ◌==◌, slice_index}
+use Rattle.std.specs.Prelude.{◌≡◌, ℕ, zero, suc, ◌-◌, ◌<◌, ◌≤◌, cond, List, [], ◌∷◌, ◌++◌, length, ◌==◌, slice_index}
 use Rattle.std.specs.List.{flat_map}
 use Rattle.graph.specs.declared.records.Link.{Link}
 use Rattle.chains.specs.declared.message.Message.{Message}

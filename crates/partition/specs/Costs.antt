@@ -1,5 +1,5 @@
 -- What a partition costs on a machine: work, levels, critical path, delay chain and cost.
-use Rattle.std.specs.Prelude.{◌≡◌, ℕ, zero, suc, ◌*◌, ◌≤◌, max, cond, ◌&&◌, List, [], ◌∷◌, length, ◌==◌}
+use Rattle.std.specs.Prelude.{◌≡◌, ℕ, zero, suc, ◌*◌, ◌≤◌, max, cond, ◌&&◌, List, length, ◌==◌}
 use Rattle.chains.specs.declared.message.Message.{Message}
 use Rattle.chains.specs.Chains.{chains, has}
 use Rattle.chains.specs.Lists.{total, greatest}

@@ -1,9 +1,7 @@
 -- A small job worked through by hand, as facts about what the definitions mean.
-use Rattle.std.specs.Prelude.{◌≡◌, ℕ, Bool, List, [], ◌∷◌}
+use Rattle.std.specs.Prelude.{◌≡◌, ℕ, List, [], ◌∷◌}
 use Rattle.graph.specs.declared.records.Task.{Task}
 use Rattle.graph.specs.declared.records.Link.{Link}
-use Rattle.chains.specs.declared.message.Message.{Message}
-use Rattle.machine.specs.declared.figures.Figures.{Figures}
 use Rattle.machine.specs.Model.{Model}
 use Rattle.machine.specs.Kinds.{bus_model}
 use Rattle.partition.specs.Blocks.{block_list, messages}

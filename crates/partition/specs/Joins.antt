@@ -1,5 +1,5 @@
 -- Joining two blocks with all blocks on a path between them.
-use Rattle.std.specs.Prelude.{ℕ, min, Bool, true, false, cond, not, ◌&&◌, ◌||◌, List, [], ◌∷◌, ◌++◌, map, length, filter, ◌==◌}
+use Rattle.std.specs.Prelude.{ℕ, min, Bool, false, cond, not, ◌&&◌, ◌||◌, List, [], ◌∷◌, ◌++◌, map, filter, ◌==◌}
 use Rattle.chains.specs.declared.message.Message.{Message}
 use Rattle.chains.specs.Chains.{chains, has}
 

@@ -55,13 +55,13 @@ fn list_each_block(partition: &Partition<'_>)
 
 // The critical path is had by a chain from a block and exceeded by none.
 fn path_is_greatest<M: Machine>(partition: &Partition<'_>, machine: &M)
-    ensures { GreatestOver (messages partition.now.links.now partition.now.blocks.now) (block_list partition.now.blocks.now) (total (block_time (meaning machine.now) partition.now.tasks.now partition.now.blocks.now (messages partition.now.links.now partition.now.blocks.now))) (critical_path (block_time (meaning machine.now) partition.now.tasks.now partition.now.blocks.now (messages partition.now.links.now partition.now.blocks.now)) (messages partition.now.links.now partition.now.blocks.now) (block_list partition.now.blocks.now)) }
+    ensures { GreatestOver (messages partition.now.links.now partition.now.blocks.now) (block_list partition.now.blocks.now) (total (block_time (M.meaning machine.now) partition.now.tasks.now partition.now.blocks.now (messages partition.now.links.now partition.now.blocks.now))) (critical_path (block_time (M.meaning machine.now) partition.now.tasks.now partition.now.blocks.now (messages partition.now.links.now partition.now.blocks.now)) (messages partition.now.links.now partition.now.blocks.now) (block_list partition.now.blocks.now)) }
 {}
 
 impl Partition<'_> {
     // All block times together.
     pub fn work<M: Machine>(&self, machine: &M) -> u64
-        ensures value { result ≡ work (block_time (meaning machine.now) self.now.tasks.now self.now.blocks.now (messages self.now.links.now self.now.blocks.now)) (block_list self.now.blocks.now) }
+        ensures value { result ≡ work (block_time (M.meaning machine.now) self.now.tasks.now self.now.blocks.now (messages self.now.links.now self.now.blocks.now)) (block_list self.now.blocks.now) }
         ensures each { EachBlock self.now.blocks.now (block_list self.now.blocks.now) }
     {
         list_each_block(self);
@@ -70,8 +70,8 @@ impl Partition<'_> {
 
     // The greatest sum of block times over chains.
     pub fn critical_path<M: Machine>(&self, machine: &M) -> u64
-        ensures value { result ≡ critical_path (block_time (meaning machine.now) self.now.tasks.now self.now.blocks.now (messages self.now.links.now self.now.blocks.now)) (messages self.now.links.now self.now.blocks.now) (block_list self.now.blocks.now) }
-        ensures greatest { GreatestOver (messages self.now.links.now self.now.blocks.now) (block_list self.now.blocks.now) (total (block_time (meaning machine.now) self.now.tasks.now self.now.blocks.now (messages self.now.links.now self.now.blocks.now))) (critical_path (block_time (meaning machine.now) self.now.tasks.now self.now.blocks.now (messages self.now.links.now self.now.blocks.now)) (messages self.now.links.now self.now.blocks.now) (block_list self.now.blocks.now)) }
+        ensures value { result ≡ critical_path (block_time (M.meaning machine.now) self.now.tasks.now self.now.blocks.now (messages self.now.links.now self.now.blocks.now)) (messages self.now.links.now self.now.blocks.now) (block_list self.now.blocks.now) }
+        ensures greatest { GreatestOver (messages self.now.links.now self.now.blocks.now) (block_list self.now.blocks.now) (total (block_time (M.meaning machine.now) self.now.tasks.now self.now.blocks.now (messages self.now.links.now self.now.blocks.now))) (critical_path (block_time (M.meaning machine.now) self.now.tasks.now self.now.blocks.now (messages self.now.links.now self.now.blocks.now)) (messages self.now.links.now self.now.blocks.now) (block_list self.now.blocks.now)) }
     {
         path_is_greatest(self, machine);
         greatest_at(self.blocks, &self.figures(machine).levels)
@@ -79,16 +79,16 @@ impl Partition<'_> {
 
     // What a partition is judged by: the larger of the critical path times the number of processors, and the work.
     pub fn cost<M: Machine>(&self, machine: &M) -> u64
-        ensures { result ≡ cost (meaning machine.now) (block_time (meaning machine.now) self.now.tasks.now self.now.blocks.now (messages self.now.links.now self.now.blocks.now)) (messages self.now.links.now self.now.blocks.now) (block_list self.now.blocks.now) }
+        ensures { result ≡ cost (M.meaning machine.now) (block_time (M.meaning machine.now) self.now.tasks.now self.now.blocks.now (messages self.now.links.now self.now.blocks.now)) (messages self.now.links.now self.now.blocks.now) (block_list self.now.blocks.now) }
     {
         self.cost_by(machine, &self.figures(machine))
     }
 
     // The same, by what the blocks take and their levels.
     fn cost_by<M: Machine>(&self, machine: &M, figures: &BlockFigures) -> u64
-        requires times { AtEach (block_time (meaning machine.now) self.now.tasks.now self.now.blocks.now (messages self.now.links.now self.now.blocks.now)) figures.now.times }
-        requires levels { AtEach (level_at (block_time (meaning machine.now) self.now.tasks.now self.now.blocks.now (messages self.now.links.now self.now.blocks.now)) (messages self.now.links.now self.now.blocks.now) (block_list self.now.blocks.now)) figures.now.levels }
-        ensures { result ≡ cost (meaning machine.now) (block_time (meaning machine.now) self.now.tasks.now self.now.blocks.now (messages self.now.links.now self.now.blocks.now)) (messages self.now.links.now self.now.blocks.now) (block_list self.now.blocks.now) }
+        requires times { AtEach (block_time (M.meaning machine.now) self.now.tasks.now self.now.blocks.now (messages self.now.links.now self.now.blocks.now)) figures.now.times }
+        requires levels { AtEach (level_at (block_time (M.meaning machine.now) self.now.tasks.now self.now.blocks.now (messages self.now.links.now self.now.blocks.now)) (messages self.now.links.now self.now.blocks.now) (block_list self.now.blocks.now)) figures.now.levels }
+        ensures { result ≡ cost (M.meaning machine.now) (block_time (M.meaning machine.now) self.now.tasks.now self.now.blocks.now (messages self.now.links.now self.now.blocks.now)) (messages self.now.links.now self.now.blocks.now) (block_list self.now.blocks.now) }
     {
         let path = greatest_at(self.blocks, &figures.levels);
         let work = sum_at(self.blocks, &figures.times);

@@ -18,7 +18,7 @@ use machine::{Machine, greatest_delay};
 // The greatest delay over all pairs of processors, for data of a size that machines answer for.
 fn largest_delay<M: Machine>(machine: &M, size: u32) -> u64
     requires small { size ≤ 1000000 }
-    ensures { GreatestDelay (meaning machine.now) size result }
+    ensures { GreatestDelay (M.meaning machine.now) size result }
 {
     match greatest_delay(machine, size) {
         Ok(delay) => delay,
@@ -39,7 +39,7 @@ fn raise_at(table: &mut [u64; 66049], from: u32, to: u32, delay: u64)
 // The cost of every step: the largest delay over all messages between its two blocks and all pairs of processors.
 fn step_costs<M: Machine>(machine: &M, messages: &[Message]) -> [u64; 66049]
     requires handled { Handled messages.now }
-    ensures { AtEachStep (step_cost (meaning machine.now) messages.now) result }
+    ensures { AtEachStep (step_cost (M.meaning machine.now) messages.now) result }
 {
     let mut table = [0; 66049];
     for message in messages {
@@ -62,28 +62,28 @@ fn step_sums_over<'x>(messages: &'x [Message], order: &'x [u32], costs: &[u64; 6
 
 // The delay chain is had by a chain from a block and exceeded by none.
 fn chain_is_greatest<M: Machine>(partition: &Partition<'_>, machine: &M)
-    ensures { GreatestOver (messages partition.now.links.now partition.now.blocks.now) (block_list partition.now.blocks.now) (steps_total (step_cost (meaning machine.now) (messages partition.now.links.now partition.now.blocks.now))) (delay_chain (meaning machine.now) (messages partition.now.links.now partition.now.blocks.now) (block_list partition.now.blocks.now)) }
+    ensures { GreatestOver (messages partition.now.links.now partition.now.blocks.now) (block_list partition.now.blocks.now) (steps_total (step_cost (M.meaning machine.now) (messages partition.now.links.now partition.now.blocks.now))) (delay_chain (M.meaning machine.now) (messages partition.now.links.now partition.now.blocks.now) (block_list partition.now.blocks.now)) }
 {}
 
 // A step's cost is had by a message between two processors and exceeded by none.
 fn steps_are_greatest<M: Machine>(partition: &Partition<'_>, machine: &M)
-    ensures { (a b : ℕ) → GreatestStep (meaning machine.now) (messages partition.now.links.now partition.now.blocks.now) a b (step_cost (meaning machine.now) (messages partition.now.links.now partition.now.blocks.now) a b) }
+    ensures { (a b : ℕ) → GreatestStep (M.meaning machine.now) (messages partition.now.links.now partition.now.blocks.now) a b (step_cost (M.meaning machine.now) (messages partition.now.links.now partition.now.blocks.now) a b) }
 {}
 
 // There is no delay on a lone processor, nor with a single block.
 fn no_delay_alone<M: Machine>(partition: &Partition<'_>, machine: &M)
-    ensures alone { (meaning machine.now).processors ≡ 1 → delay_chain (meaning machine.now) (messages partition.now.links.now partition.now.blocks.now) (block_list partition.now.blocks.now) ≡ 0 }
-    ensures single { length (block_list partition.now.blocks.now) ≡ 1 → delay_chain (meaning machine.now) (messages partition.now.links.now partition.now.blocks.now) (block_list partition.now.blocks.now) ≡ 0 }
+    ensures alone { (M.meaning machine.now).processors ≡ 1 → delay_chain (M.meaning machine.now) (messages partition.now.links.now partition.now.blocks.now) (block_list partition.now.blocks.now) ≡ 0 }
+    ensures single { length (block_list partition.now.blocks.now) ≡ 1 → delay_chain (M.meaning machine.now) (messages partition.now.links.now partition.now.blocks.now) (block_list partition.now.blocks.now) ≡ 0 }
 {}
 
 impl Partition<'_> {
     // The greatest sum of step costs over chains, where a step costs the largest delay over all messages between its two
     // blocks and all pairs of processors.
     pub fn delay_chain<M: Machine>(&self, machine: &M) -> u64
-        ensures value { result ≡ delay_chain (meaning machine.now) (messages self.now.links.now self.now.blocks.now) (block_list self.now.blocks.now) }
-        ensures greatest { GreatestOver (messages self.now.links.now self.now.blocks.now) (block_list self.now.blocks.now) (steps_total (step_cost (meaning machine.now) (messages self.now.links.now self.now.blocks.now))) (delay_chain (meaning machine.now) (messages self.now.links.now self.now.blocks.now) (block_list self.now.blocks.now)) }
-        ensures steps { (a b : ℕ) → GreatestStep (meaning machine.now) (messages self.now.links.now self.now.blocks.now) a b (step_cost (meaning machine.now) (messages self.now.links.now self.now.blocks.now) a b) }
-        ensures alone { (meaning machine.now).processors ≡ 1 → result ≡ 0 }
+        ensures value { result ≡ delay_chain (M.meaning machine.now) (messages self.now.links.now self.now.blocks.now) (block_list self.now.blocks.now) }
+        ensures greatest { GreatestOver (messages self.now.links.now self.now.blocks.now) (block_list self.now.blocks.now) (steps_total (step_cost (M.meaning machine.now) (messages self.now.links.now self.now.blocks.now))) (delay_chain (M.meaning machine.now) (messages self.now.links.now self.now.blocks.now) (block_list self.now.blocks.now)) }
+        ensures steps { (a b : ℕ) → GreatestStep (M.meaning machine.now) (messages self.now.links.now self.now.blocks.now) a b (step_cost (M.meaning machine.now) (messages self.now.links.now self.now.blocks.now) a b) }
+        ensures alone { (M.meaning machine.now).processors ≡ 1 → result ≡ 0 }
         ensures single { length (block_list self.now.blocks.now) ≡ 1 → result ≡ 0 }
     {
         chain_is_greatest(self, machine);
@@ -98,7 +98,7 @@ impl Partition<'_> {
     // At each block's number the greatest sum of step costs over the chains that begin with it, and 0 at every other number.
     fn delays_over<M: Machine>(&self, machine: &M, crossings: &[Message]) -> [u64; 257]
         requires all { crossings.now ≡ messages self.now.links.now self.now.blocks.now }
-        ensures { AtEach (delay_at (meaning machine.now) (messages self.now.links.now self.now.blocks.now) (block_list self.now.blocks.now)) result }
+        ensures { AtEach (delay_at (M.meaning machine.now) (messages self.now.links.now self.now.blocks.now) (block_list self.now.blocks.now)) result }
     {
         let costs = step_costs(machine, crossings);
         step_sums_over(crossings, self.order, &costs)

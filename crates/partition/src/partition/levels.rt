@@ -34,14 +34,14 @@ pub struct BlockFigures {
 
 // Every block's level is had by a chain from it and exceeded by none.
 fn levels_are_greatest<M: Machine>(partition: &Partition<'_>, machine: &M)
-    ensures { LevelsGreatest (block_time (meaning machine.now) partition.now.tasks.now partition.now.blocks.now (messages partition.now.links.now partition.now.blocks.now)) (messages partition.now.links.now partition.now.blocks.now) (block_list partition.now.blocks.now) }
+    ensures { LevelsGreatest (block_time (M.meaning machine.now) partition.now.tasks.now partition.now.blocks.now (messages partition.now.links.now partition.now.blocks.now)) (messages partition.now.links.now partition.now.blocks.now) (block_list partition.now.blocks.now) }
 {}
 
 impl Partition<'_> {
     pub fn figures<M: Machine>(&self, machine: &M) -> BlockFigures
-        ensures times { AtEach (block_time (meaning machine.now) self.now.tasks.now self.now.blocks.now (messages self.now.links.now self.now.blocks.now)) result.times }
-        ensures levels { AtEach (level_at (block_time (meaning machine.now) self.now.tasks.now self.now.blocks.now (messages self.now.links.now self.now.blocks.now)) (messages self.now.links.now self.now.blocks.now) (block_list self.now.blocks.now)) result.levels }
-        ensures greatest { LevelsGreatest (block_time (meaning machine.now) self.now.tasks.now self.now.blocks.now (messages self.now.links.now self.now.blocks.now)) (messages self.now.links.now self.now.blocks.now) (block_list self.now.blocks.now) }
+        ensures times { AtEach (block_time (M.meaning machine.now) self.now.tasks.now self.now.blocks.now (messages self.now.links.now self.now.blocks.now)) result.times }
+        ensures levels { AtEach (level_at (block_time (M.meaning machine.now) self.now.tasks.now self.now.blocks.now (messages self.now.links.now self.now.blocks.now)) (messages self.now.links.now self.now.blocks.now) (block_list self.now.blocks.now)) result.levels }
+        ensures greatest { LevelsGreatest (block_time (M.meaning machine.now) self.now.tasks.now self.now.blocks.now (messages self.now.links.now self.now.blocks.now)) (messages self.now.links.now self.now.blocks.now) (block_list self.now.blocks.now) }
     {
         levels_are_greatest(self, machine);
         self.figures_over(machine, self.crossings().as_slice())
@@ -50,8 +50,8 @@ impl Partition<'_> {
     // The same, over the messages.
     fn figures_over<M: Machine>(&self, machine: &M, crossings: &[Message]) -> BlockFigures
         requires all { crossings.now ≡ messages self.now.links.now self.now.blocks.now }
-        ensures times { AtEach (block_time (meaning machine.now) self.now.tasks.now self.now.blocks.now (messages self.now.links.now self.now.blocks.now)) result.times }
-        ensures levels { AtEach (level_at (block_time (meaning machine.now) self.now.tasks.now self.now.blocks.now (messages self.now.links.now self.now.blocks.now)) (messages self.now.links.now self.now.blocks.now) (block_list self.now.blocks.now)) result.levels }
+        ensures times { AtEach (block_time (M.meaning machine.now) self.now.tasks.now self.now.blocks.now (messages self.now.links.now self.now.blocks.now)) result.times }
+        ensures levels { AtEach (level_at (block_time (M.meaning machine.now) self.now.tasks.now self.now.blocks.now (messages self.now.links.now self.now.blocks.now)) (messages self.now.links.now self.now.blocks.now) (block_list self.now.blocks.now)) result.levels }
     {
         let times = self.times_over(machine, crossings);
         let levels = sums_over(crossings, self.order, &times);

@@ -13,7 +13,7 @@ use machine::Machine;
 // How long data of a size that machines answer for takes to be read.
 fn reading_time<M: Machine>(machine: &M, size: u32) -> u64
     requires small { size ≤ 1000000 }
-    ensures { result ≡ (meaning machine.now).reading size }
+    ensures { result ≡ (M.meaning machine.now).reading size }
 {
     match machine.reading(size) {
         Ok(time) => time,
@@ -24,7 +24,7 @@ fn reading_time<M: Machine>(machine: &M, size: u32) -> u64
 // How long data of a size that machines answer for takes to be written.
 fn writing_time<M: Machine>(machine: &M, size: u32) -> u64
     requires small { size ≤ 1000000 }
-    ensures { result ≡ (meaning machine.now).writing size }
+    ensures { result ≡ (M.meaning machine.now).writing size }
 {
     match machine.writing(size) {
         Ok(time) => time,
@@ -46,7 +46,7 @@ fn add_at(table: &mut [u64; 257], block: u32, time: u64)
 fn overheads<M: Machine>(machine: &M, messages: &[Message]) -> [u64; 257]
     requires few { length messages.now ≤ 1024 }
     requires handled { Handled messages.now }
-    ensures { AtEach (overhead (meaning machine.now) messages.now) result }
+    ensures { AtEach (overhead (M.meaning machine.now) messages.now) result }
 {
     let mut table = [machine.startup(); 257];
     for message in messages {
@@ -77,7 +77,7 @@ fn add_tasks(table: &mut [u64; 257], tasks: &[Task], blocks: &[u32])
 impl Partition<'_> {
     // At each block's number its overhead on the machine.
     pub fn overheads<M: Machine>(&self, machine: &M) -> [u64; 257]
-        ensures { AtEach (overhead (meaning machine.now) (messages self.now.links.now self.now.blocks.now)) result }
+        ensures { AtEach (overhead (M.meaning machine.now) (messages self.now.links.now self.now.blocks.now)) result }
     {
         self.overheads_over(machine, self.crossings().as_slice())
     }
@@ -85,7 +85,7 @@ impl Partition<'_> {
     // The same, over the messages.
     fn overheads_over<M: Machine>(&self, machine: &M, crossings: &[Message]) -> [u64; 257]
         requires all { crossings.now ≡ messages self.now.links.now self.now.blocks.now }
-        ensures at_each { AtEach (overhead (meaning machine.now) (messages self.now.links.now self.now.blocks.now)) result }
+        ensures at_each { AtEach (overhead (M.meaning machine.now) (messages self.now.links.now self.now.blocks.now)) result }
         ensures room { Room result }
     {
         overheads(machine, crossings)
@@ -93,7 +93,7 @@ impl Partition<'_> {
 
     // At each block's number what it takes on the machine: its overhead and the times of its tasks.
     pub fn times<M: Machine>(&self, machine: &M) -> [u64; 257]
-        ensures at_each { AtEach (block_time (meaning machine.now) self.now.tasks.now self.now.blocks.now (messages self.now.links.now self.now.blocks.now)) result }
+        ensures at_each { AtEach (block_time (M.meaning machine.now) self.now.tasks.now self.now.blocks.now (messages self.now.links.now self.now.blocks.now)) result }
         ensures room { Room result }
     {
         self.times_over(machine, self.crossings().as_slice())
@@ -102,7 +102,7 @@ impl Partition<'_> {
     // The same, over the messages.
     pub(crate) fn times_over<M: Machine>(&self, machine: &M, crossings: &[Message]) -> [u64; 257]
         requires all { crossings.now ≡ messages self.now.links.now self.now.blocks.now }
-        ensures at_each { AtEach (block_time (meaning machine.now) self.now.tasks.now self.now.blocks.now (messages self.now.links.now self.now.blocks.now)) result }
+        ensures at_each { AtEach (block_time (M.meaning machine.now) self.now.tasks.now self.now.blocks.now (messages self.now.links.now self.now.blocks.now)) result }
         ensures room { Room result }
     {
         let mut table = self.overheads_over(machine, crossings);

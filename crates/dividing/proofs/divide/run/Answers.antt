@@ -6,8 +6,8 @@ use Rattle.dividing.proofs.divide.run.Goals as goal
 pub loop-next-init : goal.loop-next-init
 loop-next-init g c =
     let p = c.args.partition.now in
-    running_start (g.M.Machine.meaning c.args.machine.now) (net_of p) (blocks_of p) c.in-tables-present.result c.cost.result
-    c.in-tables-present.ensures.tables c.in-tables-present.ensures.partition c.cost.ensures
+    running_start (g.M.Machine.meaning c.args.machine.now) (net_of p) (blocks_of p) c.in_tables-present.result c.cost.result
+    c.in_tables-present.ensures.tables c.in_tables-present.ensures.partition c.cost.ensures
 
 pub after-requires : goal.after-requires
 after-requires g c =
@@ -23,9 +23,9 @@ pub loop-next-preserved : goal.loop-next-preserved
 loop-next-preserved g c =
     let p = c.args.partition.now in
     running_more (g.M.Machine.meaning c.args.machine.now) (net_of p) (view_fit p) (blocks_of p) c.loop-next.present c.loop-next.best c.loop-next.invariant c.in-Some.next c.in-Some.ensures
-    c.cheaper-of-best.result c.cheaper-of-best.ensures
+    c.cheaper_of-best.result c.cheaper_of-best.ensures
 
 pub returns : goal.returns
 returns g c =
     let p = c.args.partition.now in
-    running_done (g.M.Machine.meaning c.args.machine.now) (net_of p) (view_fit p) (blocks_of p) c.loop-next.present c.loop-next.best c.loop-next.invariant c.in-default.ensures
+    running_done (g.M.Machine.meaning c.args.machine.now) (net_of p) (view_fit p) (blocks_of p) c.loop-next.present c.loop-next.best c.loop-next.invariant c.in_default.ensures

@@ -4,8 +4,8 @@ use Rattle.partition.specs.Sorted.{Sorted}
 use Rattle.joining.proofs.Viewing.{facts}
 use Rattle.dividing.proofs.tables.in_blocks.Goals as goal
 
-pub invariant-of-result : goal.invariant-of-result
-invariant-of-result c =
+pub invariant_of-result : goal.invariant_of-result
+invariant_of-result c =
     let h = c.requires.held in
     let tasks = c.args.tasks.now in
     let links = c.args.links.now in

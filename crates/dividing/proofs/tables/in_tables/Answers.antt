@@ -10,10 +10,10 @@ returns c =
     let p = c.args.partition.now in
     let n = length p.tasks.now in
     let links = p.links.now in
-    let bs = take (length p.blocks.now) c.table-of-blocks.result in
-    let order = take (length p.order.now) c.table-of-order.result in
-    let b : bs ≡ p.blocks.now = c.table-of-blocks.ensures in
-    let o : order ≡ p.order.now = c.table-of-order.ensures in
+    let bs = take (length p.blocks.now) c.table_of-blocks.result in
+    let order = take (length p.order.now) c.table_of-order.result in
+    let b : bs ≡ p.blocks.now = c.table_of-blocks.ensures in
+    let o : order ≡ p.order.now = c.table_of-order.ensures in
     record {
       partition = b;
       order = o;

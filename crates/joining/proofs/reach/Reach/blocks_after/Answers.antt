@@ -6,8 +6,8 @@ use Rattle.joining.specs.Tables.{reach_in}
 use Rattle.joining.proofs.Looping.{united_more}
 use Rattle.joining.proofs.reach.Reach.blocks_after.Goals as goal
 
-pub number-after-requires : goal.number-after-requires
-number-after-requires c = record { one = c.requires.one; other = c.requires.other; block = c.requires.small _ (in_getD _ _ 0 c.loop-i-test.true) }
+pub number_after-requires : goal.number_after-requires
+number_after-requires c = record { one = c.requires.one; other = c.requires.other; block = c.requires.small _ (in_getD _ _ 0 c.loop-i-test.true) }
 
 pub loop-i-preserved : goal.loop-i-preserved
 loop-i-preserved c =
@@ -15,7 +15,7 @@ loop-i-preserved c =
     let bs = c.args.blocks.now in
     let i = c.loop-i.i in (
       length-set c.loop-i.table i _ ∙ c.loop-i.invariant.0,
-      united_more p c.args.number c.loop-i.table bs i _ c.loop-i-test.true (omega (arith, c.loop-i-test.true, c.requires.few, c.loop-i.invariant.0)) c.number-after.ensures c.loop-i.invariant.1,
+      united_more p c.args.number c.loop-i.table bs i _ c.loop-i-test.true (omega (arith, c.loop-i-test.true, c.requires.few, c.loop-i.invariant.0)) c.number_after.ensures c.loop-i.invariant.1,
     )
 
 pub returns : goal.returns

@@ -1,4 +1,4 @@
-use Rattle.std.proofs.Common.{◌≡◌, List, ap, ◌∙◌, arith}
+use Rattle.std.proofs.Common.{List, ap, ◌∙◌, arith}
 use Rattle.chains.specs.declared.message.Message.{Message}
 use Rattle.partition.specs.Times.{overhead}
 use Rattle.partition.proofs.Handling.{fair_as}
@@ -18,6 +18,6 @@ returns g c =
     let r = c.overheads.ensures in
     let f = fair_as p _ c.requires.all in
     record {
-      0 = record { long = r.long; holds = λ b lb. r.holds b lb ∙ ap (λ (ms : List Message). overhead m ms b) c.requires.all };
+      at_each = record { long = r.long; holds = λ b lb. r.holds b lb ∙ ap (λ (ms : List Message). overhead m ms b) c.requires.all };
       room = λ b lb. omega (arith, r.holds b lb, overhead_le m law _ b f.few f.handled);
     }

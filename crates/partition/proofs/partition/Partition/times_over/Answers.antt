@@ -1,22 +1,22 @@
-use Rattle.std.proofs.Common.{◌≡◌, ℕ, ◌+◌, ap, ◌∙◌}
+use Rattle.std.proofs.Common.{◌+◌, ap, ◌∙◌}
 use Rattle.partition.specs.Blocks.{messages}
 use Rattle.partition.specs.Times.{own_time, block_time, AtEach}
 use Rattle.partition.proofs.Costing.{times_room}
 use Rattle.partition.proofs.partition.Partition.times_over.Goals as goal
 
-pub add-tasks-requires : goal.add-tasks-requires
-add-tasks-requires g c =
+pub add_tasks-requires : goal.add_tasks-requires
+add_tasks-requires g c =
     let p = c.args.self.now in
-    record { all = p.all; few = p.small; timed = p.timed; least = p.least; room = c.overheads-over-table.ensures.room }
+    record { all = p.all; few = p.small; timed = p.timed; least = p.least; room = c.overheads_over-table.ensures.room }
 
 pub returns : goal.returns
 returns g c =
     let p = c.args.self.now in
     let m = g.M.Machine.meaning c.args.machine.now in
     let law = g.met.M.Machine.lawful c.args.machine.now in
-    let r = c.add-tasks.ensures in
-    let at : AtEach (block_time m p.tasks.now p.blocks.now (messages p.links.now p.blocks.now)) c.add-tasks.new.table = record {
+    let r = c.add_tasks.ensures in
+    let at : AtEach (block_time m p.tasks.now p.blocks.now (messages p.links.now p.blocks.now)) c.add_tasks.new.table = record {
       long = r.long;
-      holds = λ b lb. r.holds b lb ∙ ap (λ k. k + own_time p.tasks.now p.blocks.now b) (c.overheads-over-table.ensures.0.holds b lb);
+      holds = λ b lb. r.holds b lb ∙ ap (λ k. k + own_time p.tasks.now p.blocks.now b) (c.overheads_over-table.ensures.at_each.holds b lb);
     } in
-    record { 0 = at; room = times_room p m law _ at }
+    record { at_each = at; room = times_room p m law _ at }

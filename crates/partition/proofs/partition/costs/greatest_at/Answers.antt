@@ -1,4 +1,4 @@
-use Rattle.std.proofs.Common.{◌≡◌, ℕ, ◌+◌, max, length, sym, ap, ◌∙◌, arith}
+use Rattle.std.proofs.Common.{◌≡◌, length, ap, ◌∙◌, arith}
 use Rattle.chains.specs.Lists.{greatest}
 use Rattle.chains.specs.Sums.{time_in}
 use Rattle.partition.specs.Blocks.{blocks_among}

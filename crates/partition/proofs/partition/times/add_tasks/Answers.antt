@@ -1,12 +1,12 @@
-use Rattle.std.proofs.Common.{◌≡◌, ℕ, ◌+◌, ◌<◌, ◌≤◌, List, length, get_or, sym, refl, ap, ◌∙◌, subst, ap₂, arith}
+use Rattle.std.proofs.Common.{ℕ, ◌+◌, ◌≤◌, List, get_or, sym, ◌∙◌, subst, ap₂}
 use Rattle.std.proofs.lemmas.List.{take_all}
 use Rattle.graph.specs.declared.records.Task.{Task}
 use Rattle.partition.specs.Times.{own_time}
-use Rattle.partition.proofs.Summing.{Tasked, task_known, task_fits, task_more}
+use Rattle.partition.proofs.Summing.{task_known, task_fits, task_more}
 use Rattle.partition.proofs.partition.times.add_tasks.Goals as goal
 
-pub add-at-requires : goal.add-at-requires
-add-at-requires c =
+pub add_at-requires : goal.add_at-requires
+add_at-requires c =
     let p = c.requires in
     record {
       known = task_known _ p.room _ p.few _ p.all p.timed p.least _ c.loop-i.i c.loop-i-test.true c.loop-i.invariant;
@@ -16,7 +16,7 @@ add-at-requires c =
 pub loop-i-preserved : goal.loop-i-preserved
 loop-i-preserved c =
     let p = c.requires in
-    task_more _ p.room _ p.few _ p.all p.timed p.least _ c.loop-i.i c.loop-i-test.true c.loop-i.invariant _ c.from.ensures _ c.add-at.ensures
+    task_more _ p.room _ p.few _ p.all p.timed p.least _ c.loop-i.i c.loop-i-test.true c.loop-i.invariant _ c.from.ensures _ c.add_at.ensures
 
 pub returns : goal.returns
 returns c =

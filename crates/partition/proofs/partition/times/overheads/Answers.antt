@@ -1,10 +1,10 @@
-use Rattle.std.proofs.Common.{◌≡◌, ℕ, ◌+◌, ◌<◌, ◌≤◌, List, length, get_or, replicate, sym, refl, ap, ◌∙◌, subst, arith}
+use Rattle.std.proofs.Common.{ℕ, ◌+◌, List, refl, ap, ◌∙◌, arith}
 use Rattle.std.proofs.lemmas.List.{length-replicate, get_or-replicate, take_all}
 use Rattle.chains.specs.declared.message.Message.{Message}
-use Rattle.chains.specs.Lists.{In, total}
+use Rattle.chains.specs.Lists.{total}
 use Rattle.chains.proofs.Lists.{in_getD}
 use Rattle.partition.specs.Times.{handling}
-use Rattle.partition.proofs.Summing.{Over, over_fits, over_fits_too, over_more}
+use Rattle.partition.proofs.Summing.{over_fits, over_fits_too, over_more}
 use Rattle.partition.proofs.partition.times.overheads.Goals as goal
 
 pub loop-message-init : goal.loop-message-init
@@ -13,25 +13,25 @@ loop-message-init g c = record {
   holds = λ b lb. get_or-replicate 257 b c.startup-table.result 0 (omega (arith, lb)) ∙ omega (arith, c.startup-table.ensures);
 }
 
-pub reading-time-requires : goal.reading-time-requires
-reading-time-requires g c = record { small = (c.requires.handled _ (in_getD _ _ (record { from = 0; to = 0; size = 0 }) c.loop-message-test.true)).2 }
+pub reading_time-requires : goal.reading_time-requires
+reading_time-requires g c = record { small = (c.requires.handled _ (in_getD _ _ (record { from = 0; to = 0; size = 0 }) c.loop-message-test.true)).2 }
 
-pub writing-time-requires : goal.writing-time-requires
-writing-time-requires g c = record { small = (c.requires.handled _ (in_getD _ _ (record { from = 0; to = 0; size = 0 }) c.loop-message-test.true)).2 }
+pub writing_time-requires : goal.writing_time-requires
+writing_time-requires g c = record { small = (c.requires.handled _ (in_getD _ _ (record { from = 0; to = 0; size = 0 }) c.loop-message-test.true)).2 }
 
-pub add-at-requires : goal.add-at-requires
-add-at-requires g c =
+pub add_at-requires : goal.add_at-requires
+add_at-requires g c =
     let m = g.M.Machine.meaning c.args.machine.now in
     let law = g.met.M.Machine.lawful c.args.machine.now in
     let i = c.loop-message.message-index in
     let good = c.requires.handled _ (in_getD _ i (record { from = 0; to = 0; size = 0 }) c.loop-message-test.true) in
     record {
       known = good.1;
-      fits = over_fits m law _ c.requires.few c.requires.handled c.loop-message.table i c.loop-message.invariant _ _ good.1 (omega (arith, c.reading-time.ensures, law.reads _ good.2));
+      fits = over_fits m law _ c.requires.few c.requires.handled c.loop-message.table i c.loop-message.invariant _ _ good.1 (omega (arith, c.reading_time.ensures, law.reads _ good.2));
     }
 
-pub add-at-requires-in-loop-message : goal.add-at-requires-in-loop-message
-add-at-requires-in-loop-message g c =
+pub add_at-requires-in-loop-message : goal.add_at-requires-in-loop-message
+add_at-requires-in-loop-message g c =
     let m = g.M.Machine.meaning c.args.machine.now in
     let law = g.met.M.Machine.lawful c.args.machine.now in
     let i = c.loop-message.message-index in
@@ -39,7 +39,7 @@ add-at-requires-in-loop-message g c =
     record {
       known = good.0;
       fits = over_fits_too m law _ c.requires.few c.requires.handled c.loop-message.table i c.loop-message.invariant c.loop-message-test.true _ refl _ _
-          c.reading-time.ensures c.writing-time.ensures c.add-at.new.table _ c.add-at.ensures refl;
+          c.reading_time.ensures c.writing_time.ensures c.add_at.new.table _ c.add_at.ensures refl;
     }
 
 pub loop-message-preserved : goal.loop-message-preserved
@@ -48,7 +48,7 @@ loop-message-preserved g c =
     let law = g.met.M.Machine.lawful c.args.machine.now in
     let i = c.loop-message.message-index in
     over_more m law _ c.requires.few c.requires.handled c.loop-message.table i c.loop-message.invariant c.loop-message-test.true _ refl _ _
-    c.reading-time.ensures c.writing-time.ensures c.add-at.new.table c.add-at-in-loop-message.new.table c.add-at.ensures c.add-at-in-loop-message.ensures
+    c.reading_time.ensures c.writing_time.ensures c.add_at.new.table c.add_at-in-loop-message.new.table c.add_at.ensures c.add_at-in-loop-message.ensures
 
 pub returns : goal.returns
 returns g c =

@@ -24,7 +24,7 @@ fn length_of(rows: &[Row]) -> u64
 
 // Why the rows are refused one by one, each test over all rows before the next.
 fn row_fault<M: Machine>(job: &Job, machine: &M, rows: &[Row]) -> Option<CheckRefusal>
-    ensures { result ≡ row_refusal (meaning machine.now) (seen job.now) rows.now }
+    ensures { result ≡ row_refusal (M.meaning machine.now) (seen job.now) rows.now }
 {
     let misnaming = first_row(&Misnames { blocks: job.blocks }, rows);
     if misnaming != 0 {
@@ -63,7 +63,7 @@ fn row_fault<M: Machine>(job: &Job, machine: &M, rows: &[Row]) -> Option<CheckRe
 
 // Why the rows are refused, where they are.
 fn fault<M: Machine>(job: &Job, machine: &M, rows: &[Row]) -> Option<CheckRefusal>
-    ensures { result ≡ check_refusal (meaning machine.now) (seen job.now) rows.now }
+    ensures { result ≡ check_refusal (M.meaning machine.now) (seen job.now) rows.now }
 {
     if rows.len() != job.blocks.len() {
         return Some(CheckRefusal::RowCount(rows.len() as u64));
@@ -73,7 +73,7 @@ fn fault<M: Machine>(job: &Job, machine: &M, rows: &[Row]) -> Option<CheckRefusa
 
 // The length of the rows, or why they are refused.
 fn answer<M: Machine>(job: &Job, machine: &M, rows: &[Row]) -> Result<u64, CheckRefusal>
-    ensures { result ≡ check_answer (meaning machine.now) (seen job.now) rows.now }
+    ensures { result ≡ check_answer (M.meaning machine.now) (seen job.now) rows.now }
 {
     match fault(job, machine, rows) {
         Some(why) => Err(why),
@@ -88,9 +88,9 @@ fn judged<M: Machine>(
     rows: &[Row],
     given: Result<u64, CheckRefusal>,
 ) -> Result<u64, CheckRefusal>
-    requires { given ≡ check_answer (meaning machine.now) (seen job.now) rows.now }
-    ensures answer { result ≡ check_answer (meaning machine.now) (seen job.now) rows.now }
-    ensures valid { Judges (meaning machine.now) (seen job.now) rows.now result }
+    requires { given ≡ check_answer (M.meaning machine.now) (seen job.now) rows.now }
+    ensures answer { result ≡ check_answer (M.meaning machine.now) (seen job.now) rows.now }
+    ensures valid { Judges (M.meaning machine.now) (seen job.now) rows.now result }
     ensures exact { AcceptsExactly }
 {
     given
@@ -99,8 +99,8 @@ fn judged<M: Machine>(
 // The length of the rows, which may come from anyone and in any order; refused unless they are a valid schedule of the
 // job on the machine.
 pub fn check<M: Machine>(job: &Job, machine: &M, rows: &[Row]) -> Result<u64, CheckRefusal>
-    ensures answer { result ≡ check_answer (meaning machine.now) (seen job.now) rows.now }
-    ensures valid { Judges (meaning machine.now) (seen job.now) rows.now result }
+    ensures answer { result ≡ check_answer (M.meaning machine.now) (seen job.now) rows.now }
+    ensures valid { Judges (M.meaning machine.now) (seen job.now) rows.now result }
     ensures exact { AcceptsExactly }
 {
     judged(job, machine, rows, answer(job, machine, rows))

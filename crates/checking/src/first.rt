@@ -27,8 +27,8 @@ pub(crate) trait Test {
 
 // The number, from 1, of the first row that a test takes, or 0.
 pub(crate) fn first_row<T: Test>(test: &T, rows: &[Row]) -> u64
-    requires { (r : Row) → In r rows.now → apt test.now r }
-    ensures { result ≡ first_row (takes test.now) rows.now }
+    requires { (r : Row) → In r rows.now → T.apt test.now r }
+    ensures { result ≡ first_row (T.takes test.now) rows.now }
 {
     for (i, row) in rows.iter().enumerate() {
         if test.takes(&rows[..i], row) {

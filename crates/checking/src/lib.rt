@@ -1,4 +1,6 @@
 // Checking rows from anyone: exactly the valid schedules are accepted.
+#![tactic(auto)]
+
 mod arriving;
 mod checker;
 mod examples;

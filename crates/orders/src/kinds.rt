@@ -1,5 +1,6 @@
 // The kinds of order that there are.
 ghost use Rattle.std.specs.Prelude.{◌≡◌};
+ghost use Rattle.orders.specs.Lawfulness.{refined_lawful};
 ghost use Rattle.schedule.specs.Orders.{by_level, by_time, by_number, greater_first, refined};
 ghost use Rattle.std.proofs.Common.{rules};
 
@@ -71,7 +72,7 @@ impl Priority for ByNumber {
 impl<A: Priority, B: Priority> Priority for Refined<A, B> {
     ghost meaning = { λ r. refined (A.Priority.meaning r.first) (B.Priority.meaning r.second) };
 
-    ghost lawful = { Prim.search rules };
+    ghost lawful = { λ r. refined_lawful (A.Priority.meaning r.first) (B.Priority.meaning r.second) (A.Priority.lawful r.first) (B.Priority.lawful r.second) };
 
     fn compare(&self, one: Standing, other: Standing) -> Rank {
         match self.first.compare(one, other) {

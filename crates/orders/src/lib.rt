@@ -1,3 +1,5 @@
 // The orders of blocks that there are: by level, by time, by number, one refined by another, and either of two.
+#![tactic(auto)]
+
 pub mod either;
 pub mod kinds;

@@ -12,45 +12,45 @@ strayed rows n p q e same = e ∙ ap (λ (k : ℕ). first_row (λ above r. stray
 
 pub returns-then-straying-ne0 : goal.returns-then-straying-ne0
 returns-then-straying-ne0 g c =
-    at_processor (g.M.Machine.meaning c.args.machine.now) (seen c.args.job.now) c.args.rows.now c.first-row-straying.result
-    (sym c.first-row-misnaming.ensures ∙ c.if-misnaming-ne0.false)
-    (strayed c.args.rows.now _ _ _ c.first-row-straying.ensures c.processors.ensures) c.if-straying-ne0.true
+    at_processor (g.M.Machine.meaning c.args.machine.now) (seen c.args.job.now) c.args.rows.now c.first_row-straying.result
+    (sym c.first_row-misnaming.ensures ∙ c.if-misnaming-ne0.false)
+    (strayed c.args.rows.now _ _ _ c.first_row-straying.ensures c.processors.ensures) c.if-straying-ne0.true
 
 pub returns-then-breaking-ne0 : goal.returns-then-breaking-ne0
 returns-then-breaking-ne0 g c =
-    at_finish (g.M.Machine.meaning c.args.machine.now) (seen c.args.job.now) c.args.rows.now c.first-row-breaking.result
-    (sym c.first-row-misnaming.ensures ∙ c.if-misnaming-ne0.false)
-    (sym (strayed c.args.rows.now _ _ _ c.first-row-straying.ensures c.processors.ensures) ∙ c.if-straying-ne0.false)
-    c.first-row-breaking.ensures c.if-breaking-ne0.true
+    at_finish (g.M.Machine.meaning c.args.machine.now) (seen c.args.job.now) c.args.rows.now c.first_row-breaking.result
+    (sym c.first_row-misnaming.ensures ∙ c.if-misnaming-ne0.false)
+    (sym (strayed c.args.rows.now _ _ _ c.first_row-straying.ensures c.processors.ensures) ∙ c.if-straying-ne0.false)
+    c.first_row-breaking.ensures c.if-breaking-ne0.true
 
 pub returns-then-overlapping-ne0 : goal.returns-then-overlapping-ne0
 returns-then-overlapping-ne0 g c =
-    at_overlap (g.M.Machine.meaning c.args.machine.now) (seen c.args.job.now) c.args.rows.now c.first-row-overlapping.result
-    (sym c.first-row-misnaming.ensures ∙ c.if-misnaming-ne0.false)
-    (sym (strayed c.args.rows.now _ _ _ c.first-row-straying.ensures c.processors.ensures) ∙ c.if-straying-ne0.false)
-    (sym c.first-row-breaking.ensures ∙ c.if-breaking-ne0.false)
-    c.first-row-overlapping.ensures c.if-overlapping-ne0.true
+    at_overlap (g.M.Machine.meaning c.args.machine.now) (seen c.args.job.now) c.args.rows.now c.first_row-overlapping.result
+    (sym c.first_row-misnaming.ensures ∙ c.if-misnaming-ne0.false)
+    (sym (strayed c.args.rows.now _ _ _ c.first_row-straying.ensures c.processors.ensures) ∙ c.if-straying-ne0.false)
+    (sym c.first_row-breaking.ensures ∙ c.if-breaking-ne0.false)
+    c.first_row-overlapping.ensures c.if-overlapping-ne0.true
 
-pub first-row-lacking-requires : goal.first-row-lacking-requires
-first-row-lacking-requires g c = λ r i.
+pub first_row-lacking-requires : goal.first_row-lacking-requires
+first_row-lacking-requires g c = λ r i.
     let housed = housed_from (g.M.Machine.meaning c.args.machine.now).processors c.args.rows.now
-    (sym (strayed c.args.rows.now _ _ _ c.first-row-straying.ensures c.processors.ensures) ∙ c.if-straying-ne0.false) in
+    (sym (strayed c.args.rows.now _ _ _ c.first_row-straying.ensures c.processors.ensures) ∙ c.if-straying-ne0.false) in
     record { to = housed r i; from = housed; small = c.args.job.now.sized }
 
 pub returns-then-lacking-ne0 : goal.returns-then-lacking-ne0
 returns-then-lacking-ne0 g c =
-    at_arrival (g.M.Machine.meaning c.args.machine.now) (seen c.args.job.now) c.args.rows.now c.first-row-lacking.result
-    (sym c.first-row-misnaming.ensures ∙ c.if-misnaming-ne0.false)
-    (sym (strayed c.args.rows.now _ _ _ c.first-row-straying.ensures c.processors.ensures) ∙ c.if-straying-ne0.false)
-    (sym c.first-row-breaking.ensures ∙ c.if-breaking-ne0.false)
-    (sym c.first-row-overlapping.ensures ∙ c.if-overlapping-ne0.false)
-    c.first-row-lacking.ensures c.if-lacking-ne0.true
+    at_arrival (g.M.Machine.meaning c.args.machine.now) (seen c.args.job.now) c.args.rows.now c.first_row-lacking.result
+    (sym c.first_row-misnaming.ensures ∙ c.if-misnaming-ne0.false)
+    (sym (strayed c.args.rows.now _ _ _ c.first_row-straying.ensures c.processors.ensures) ∙ c.if-straying-ne0.false)
+    (sym c.first_row-breaking.ensures ∙ c.if-breaking-ne0.false)
+    (sym c.first_row-overlapping.ensures ∙ c.if-overlapping-ne0.false)
+    c.first_row-lacking.ensures c.if-lacking-ne0.true
 
 pub returns : goal.returns
 returns g c =
     sym (at_none (g.M.Machine.meaning c.args.machine.now) (seen c.args.job.now) c.args.rows.now
-    (sym c.first-row-misnaming.ensures ∙ c.if-misnaming-ne0.false)
-    (sym (strayed c.args.rows.now _ _ _ c.first-row-straying.ensures c.processors.ensures) ∙ c.if-straying-ne0.false)
-    (sym c.first-row-breaking.ensures ∙ c.if-breaking-ne0.false)
-    (sym c.first-row-overlapping.ensures ∙ c.if-overlapping-ne0.false)
-    (sym c.first-row-lacking.ensures ∙ c.if-lacking-ne0.false))
+    (sym c.first_row-misnaming.ensures ∙ c.if-misnaming-ne0.false)
+    (sym (strayed c.args.rows.now _ _ _ c.first_row-straying.ensures c.processors.ensures) ∙ c.if-straying-ne0.false)
+    (sym c.first_row-breaking.ensures ∙ c.if-breaking-ne0.false)
+    (sym c.first_row-overlapping.ensures ∙ c.if-overlapping-ne0.false)
+    (sym c.first_row-lacking.ensures ∙ c.if-lacking-ne0.false))

@@ -5,7 +5,7 @@ use Rattle.chains.specs.Chains.{Chain, chains}
 use Rattle.chains.specs.Lists.{In, total, greatest}
 use Rattle.chains.specs.Sums.{steps_total}
 use Rattle.machine.specs.Model.{Model}
-use Rattle.partition.specs.Costs.{work, critical_path, step_cost, delay_chain, cost}
+use Rattle.partition.specs.Costs.{work, critical_path, step_cost, delay_chain}
 use Rattle.partition.proofs.Levels.{greatest_ge}
 use Rattle.schedule.specs.declared.rows.Row.{Row}
 use Rattle.schedule.specs.Problems.{Problem, length_of}

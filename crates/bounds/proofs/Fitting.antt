@@ -6,7 +6,7 @@ use Rattle.chains.specs.Lists.{In, total}
 use Rattle.chains.proofs.Lists.{in_map, once_apart}
 use Rattle.chains.proofs.Every.{enumerates, only_chains}
 use Rattle.machine.specs.Model.{Model}
-use Rattle.partition.specs.Costs.{work, level, critical_path, cost}
+use Rattle.partition.specs.Costs.{work, level, critical_path}
 use Rattle.partition.proofs.Levels.{greatest_ge, greatest_le}
 use Rattle.schedule.specs.declared.rows.Row.{Row}
 use Rattle.schedule.specs.Problems.{Problem, Sound, length_of}

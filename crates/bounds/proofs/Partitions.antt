@@ -1,9 +1,8 @@
 -- The blocks of a job's tasks are a problem for every machine, and its figures depend on what the machine means.
-use Rattle.std.proofs.Common.{◌≡◌, ℕ, zero, suc, ◌+◌, ◌-◌, ◌*◌, ◌<◌, ◌≤◌, max, cond, eqb, List, [], ◌∷◌, length, get_or, sym, refl, ap, ◌∙◌, subst, ap₂, subst₂, inl, inr, ⊎_elim, arith}
-use Rattle.std.proofs.lemmas.Bool.{eq-eqb, cond-true}
+use Rattle.std.proofs.Common.{◌≡◌, ℕ, ◌+◌, ◌-◌, ◌*◌, ◌≤◌, max, cond, eqb, List, [], ◌∷◌, length, sym, refl, ap, ◌∙◌, subst, ap₂, subst₂, inl, inr, ⊎_elim, arith}
 use Rattle.graph.specs.declared.records.Task.{Task}
 use Rattle.graph.specs.declared.records.Link.{Link}
-use Rattle.graph.specs.Net.{no_task, no_link, Sized}
+use Rattle.graph.specs.Net.{no_link, Sized}
 use Rattle.chains.specs.declared.message.Message.{Message}
 use Rattle.chains.specs.Chains.{ChainFrom, chains}
 use Rattle.chains.specs.Lists.{In, total, greatest}
@@ -12,7 +11,7 @@ use Rattle.chains.proofs.Every.{only_chains}
 use Rattle.machine.specs.Model.{Model}
 use Rattle.machine.specs.Same.{Same}
 use Rattle.partition.specs.Blocks.{block_of, block_list, messages}
-use Rattle.partition.specs.Times.{own_time, handling, block_time}
+use Rattle.partition.specs.Times.{handling, block_time}
 use Rattle.partition.specs.Costs.{work, level, critical_path, cost}
 use Rattle.partition.proofs.Counting.{of_among, in_among, apart_among}
 use Rattle.partition.proofs.Handling.{ends}

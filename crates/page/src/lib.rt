@@ -1,4 +1,6 @@
 // The printed text of a schedule and of a refusal, on a page of fixed room, and how a text is handed out.
+#![tactic(auto)]
+
 mod examples;
 mod fault;
 mod handing;

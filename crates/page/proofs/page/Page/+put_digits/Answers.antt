@@ -8,8 +8,8 @@ longer n ge lt = ap length (decimal_step n ge lt) ∙ length-append (decimal (n 
 pub push-requires : goal.push-requires
 push-requires t c = search (rules, decimal_nonempty c.args.n)
 
-pub put-digits-requires : goal.put-digits-requires
-put-digits-requires t c = search (rules, longer c.args.n)
+pub put_digits-requires : goal.put_digits-requires
+put_digits-requires t c = search (rules, longer c.args.n)
 
 pub push-requires-2 : goal.push-requires-2
 push-requires-2 t c = search (rules, longer c.args.n)

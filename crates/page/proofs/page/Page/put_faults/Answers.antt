@@ -7,7 +7,7 @@ use Rattle.page.proofs.page.Page.put_faults.Goals as goal
 
 pub loop-fault-preserved : goal.loop-fault-preserved
 loop-fault-preserved c =
-    (joined_one spaced_fault (page_text c.args.self.now) c.args.faults.now c.loop-fault.fault-index _ _ _ (omega arith) (search rules) c.loop-fault.invariant.0 c.put-fault.ensures.text, omega arith)
+    (joined_one spaced_fault (page_text c.args.self.now) c.args.faults.now c.loop-fault.fault-index _ _ _ (omega arith) (search rules) c.loop-fault.invariant.0 c.put_fault.ensures.text, omega arith)
 
 pub returns : goal.returns
 returns c =

@@ -6,7 +6,7 @@ use Rattle.page.proofs.page.Page.put_rows.Goals as goal
 
 pub loop-row-preserved : goal.loop-row-preserved
 loop-row-preserved c =
-    (joined_one row_line (page_text c.args.self.now) c.args.rows.now c.loop-row.row-index _ _ _ (omega arith) (search rules) c.loop-row.invariant.0 c.put-row.ensures.text, omega arith)
+    (joined_one row_line (page_text c.args.self.now) c.args.rows.now c.loop-row.row-index _ _ _ (omega arith) (search rules) c.loop-row.invariant.0 c.put_row.ensures.text, omega arith)
 
 pub returns : goal.returns
 returns c =

@@ -7,7 +7,7 @@ use crate::records::Stage;
 use graph::graph::Graph;
 
 pub mod calls;
-pub mod words;
+pub mod job_words;
 
 // A graph, how far it has come, and the block of each task, with memory for all that there may ever be.
 #[derive(Drop)]

@@ -1,7 +1,7 @@
 #!/usr/bin/env python3
 """Spells the repository's own definitions and lemmas as today's Rattle does.
 
-    python3 tools/respell.py        at the top of the repository, once, after the kit's script for older repositories
+    python3 tools/respell.py        at the top of the repository, after the kit's script for older repositories; a second run changes nothing
 
 Names with a hyphen become names in snake case, and types (names that begin with a capital letter) names in camel case.
 Renamed are names that a file of specs/, or a lemma file right in proofs/, defines: definitions, lemmas, fields,
@@ -15,8 +15,6 @@ import os, re, sys
 WORD = r"A-Za-z0-9_'′\u0370-\u03ff\u2080-\u2089-"
 NAME = re.compile(rf"(?<![{WORD}])[A-Za-z][{WORD}]*-[{WORD}]*[A-Za-z0-9'′](?![{WORD}])")
 SKIP = {"out", ".git", "target"}
-# names that would fall together with another, and names that a clause reads otherwise
-OTHER = {}
 
 
 def files():
@@ -47,8 +45,6 @@ def split(line):
 
 
 def new_name(old):
-    if old in OTHER:
-        return OTHER[old]
     parts = old.replace("′", "'").split("-")
     if parts[0][:1].isupper():
         return "".join(p[:1].upper() + p[1:] for p in parts)

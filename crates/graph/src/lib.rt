@@ -2,6 +2,7 @@
 #![tactic(auto)]
 
 pub mod graph;
+pub mod limits;
 mod order;
 mod reach;
 pub mod records;

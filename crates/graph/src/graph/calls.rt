@@ -8,18 +8,11 @@ ghost use Rattle.graph.specs.Walks.{through, circle, close_rows, Processes, Reac
 ghost use Rattle.graph.specs.Of.{net_of};
 
 use crate::graph::Graph;
+use crate::limits::{MAX_LINKS, MAX_SIZE, MAX_TASKS, MAX_TIME};
 use crate::order::{counts_of, sorted};
 use crate::reach::{least_on_circle, reach_table};
 use crate::records::{Link, Refusal, Task};
 use std::alloc::{AllocError, Global};
-
-const MAX_TASKS: usize = 256;
-
-const MAX_LINKS: usize = 1024;
-
-const MAX_TIME: u32 = 1_000_000;
-
-const MAX_SIZE: u32 = 1_000_000;
 
 // Whether a task may have this time.
 pub fn time_in_range(time: u32) -> bool

@@ -1,0 +1,9 @@
+// How large a job may be.
+
+pub const MAX_TASKS: usize = 256;
+
+pub const MAX_LINKS: usize = 1024;
+
+pub const MAX_TIME: u32 = 1_000_000;
+
+pub const MAX_SIZE: u32 = 1_000_000;

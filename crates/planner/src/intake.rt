@@ -1,20 +1,34 @@
 // Taking a job in: its words are read, and the graph that they stand for is closed.
 ghost use Rattle.std.specs.Prelude.{◌≡◌};
+ghost use Rattle.planner.specs.declared.intake_refusal.IntakeRefusal.TheVariants.{Read, Close};
 ghost use Rattle.planner.specs.Intake.{taking_in};
 ghost use Rattle.planner.specs.Of.{state_of};
 
 use crate::intake_refusal::IntakeRefusal;
 use crate::task_graph::TaskGraph;
+use graph::records::Refusal;
+use words::refusal::ReadRefusal;
+
+impl From<ReadRefusal> for IntakeRefusal {
+    ghost from_gives = { λ why given. given ≡ Read why };
+
+    fn from(why: ReadRefusal) -> IntakeRefusal {
+        IntakeRefusal::Read(why)
+    }
+}
+
+impl From<Refusal> for IntakeRefusal {
+    ghost from_gives = { λ why given. given ≡ Close why };
+
+    fn from(why: Refusal) -> IntakeRefusal {
+        IntakeRefusal::Close(why)
+    }
+}
 
 // Answers the number of tasks. Where the words are refused, the graph stays as it was; where closing is, it stays open.
 pub fn take_in(graph: &mut TaskGraph, words: &[u32]) -> Result<u32, IntakeRefusal>
     ensures { (state_of graph.new, result) ≡ taking_in (state_of graph.old) words.now }
 {
-    if let Err(why) = graph.read_words(words) {
-        return Err(IntakeRefusal::Read(why));
-    }
-    match graph.close() {
-        Ok(n) => Ok(n),
-        Err(why) => Err(IntakeRefusal::Close(why)),
-    }
+    graph.read_words(words)?;
+    Ok(graph.close()?)
 }

@@ -3,7 +3,7 @@ use graph::records::Refusal;
 use words::refusal::ReadRefusal;
 
 // The words are refused, or the graph that they stand for cannot be closed.
-#[derive(Clone, Copy)]
+#[derive(Clone, Copy, PartialEq, Eq, Debug)]
 pub enum IntakeRefusal {
     Read(ReadRefusal),
     Close(Refusal),

@@ -9,10 +9,12 @@ ghost use Rattle.planner.specs.Of.{state_of};
 use crate::records::Stage;
 use crate::task_graph::TaskGraph;
 use graph::graph::Graph;
+use graph::limits::MAX_TASKS;
 use graph::records::Refusal;
 use std::alloc::{AllocError, Global};
 
-const MAX_BLOCKS: usize = 256;
+// Every task may be a block of its own.
+const MAX_BLOCKS: usize = MAX_TASKS;
 
 // Makes the blocks 1 to n, one for each task.
 fn number_blocks(blocks: &mut Vec<u32>, n: usize)
@@ -23,8 +25,8 @@ fn number_blocks(blocks: &mut Vec<u32>, n: usize)
     ensures room { 256 ≤ vec_capacity blocks.new }
 {
     blocks.clear();
-    for done in 0..n {
-        blocks.push_reserved(done as u32 + 1);
+    for number in 1..n as u32 + 1 {
+        blocks.push_reserved(number);
     }
 }
 

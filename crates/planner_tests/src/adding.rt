@@ -22,8 +22,8 @@ fn a_task_keeps_its_time_and_has_no_link(rt: HostRuntime) -> Result<(), Fail> {
     }
     let tasks = graph.graph().tasks();
     assert!(rt; tasks.len() == 3);
-    for (i, time) in [4, 3, 5].iter().enumerate() {
-        assert_eq!(rt; (tasks[i].time, tasks[i].newest), (*time, 0));
+    for (task, time) in tasks.iter().zip([4, 3, 5]) {
+        assert_eq!(rt; (task.time, task.newest), (time, 0));
     }
     Ok(())
 }

@@ -16,22 +16,12 @@ fn refused(
     at: (u32, u64),
     below: Option<(u32, u32)>,
 ) -> Result<(), Fail> {
-    match answer {
-        Ok(_) => Err(Fail::new("the words were accepted")),
-        Err(why) => {
-            assert_eq!(rt; (why.number(), why.place()), at);
-            match why.below() {
-                Some(lower) => {
-                    assert_eq!(rt; Some((lower.number(), lower.place())), below);
-                    Ok(())
-                },
-                None => {
-                    assert_eq!(rt; None, below);
-                    Ok(())
-                },
-            }
-        }
-    }
+    let Err(why) = answer else {
+        return Err(Fail::new("the words were accepted"));
+    };
+    assert_eq!(rt; (why.number(), why.place()), at);
+    assert_eq!(rt; why.below().map(|lower| (lower.number(), lower.place())), below);
+    Ok(())
 }
 
 #[test]
@@ -42,10 +32,7 @@ fn words_are_read_and_written_back(rt: HostRuntime) -> Result<(), Fail> {
     assert_eq!(rt; graph.graph().links().len(), 4);
     let mut out = [7; 25];
     assert!(rt; graph.write_words(&mut out).is_ok());
-    for (i, word) in JOB.iter().enumerate() {
-        assert!(rt; i < 25);
-        assert_eq!(rt; out[i], *word);
-    }
+    assert_eq!(rt; &out[..23], JOB.as_slice());
     assert_eq!(rt; (out[23], out[24]), (7, 7));
     Ok(())
 }
@@ -55,13 +42,11 @@ fn a_list_that_is_too_short_is_not_written(rt: HostRuntime) -> Result<(), Fail> 
     let mut graph = TaskGraph::new(rt.alloc())?;
     assert!(rt; graph.read_words(&JOB).is_ok());
     let mut out = [7; 22];
-    match graph.write_words(&mut out) {
-        Ok(_) => return Err(Fail::new("the words were written")),
-        Err(why) => assert_eq!(rt; (why.number(), why.place()), (18, 23)),
-    }
-    for word in out {
-        assert_eq!(rt; word, 7);
-    }
+    let Err(why) = graph.write_words(&mut out) else {
+        return Err(Fail::new("the words were written"));
+    };
+    assert_eq!(rt; (why.number(), why.place()), (18, 23));
+    assert_eq!(rt; out, [7; 22]);
     Ok(())
 }
 
@@ -136,11 +121,9 @@ fn a_refused_reading_keeps_the_graph_and_its_stage(rt: HostRuntime) -> Result<()
     assert!(rt; graph.read_words(&[1, 0, 0]).is_ok());
     assert!(rt; graph.stage() == Stage::Open);
     assert_eq!(rt; graph.blocks().len(), 0);
-    match graph.close() {
-        Ok(_) => Err(Fail::new("an empty graph was closed")),
-        Err(why) => {
-            assert_eq!(rt; (why.number(), why.place()), (9, 0));
-            Ok(())
-        },
-    }
+    let Err(why) = graph.close() else {
+        return Err(Fail::new("an empty graph was closed"));
+    };
+    assert_eq!(rt; (why.number(), why.place()), (9, 0));
+    Ok(())
 }

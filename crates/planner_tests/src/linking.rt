@@ -69,8 +69,8 @@ fn each_link_names_the_next_older_one_of_its_sender(rt: HostRuntime) -> Result<(
     }
     let tasks = graph.graph().tasks();
     assert!(rt; tasks.len() == 4);
-    for (i, newest) in [2, 3, 4, 0].iter().enumerate() {
-        assert_eq!(rt; tasks[i].newest, *newest);
+    for (task, newest) in tasks.iter().zip([2, 3, 4, 0]) {
+        assert_eq!(rt; task.newest, newest);
     }
     Ok(())
 }

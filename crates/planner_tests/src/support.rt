@@ -12,20 +12,18 @@ pub fn refused(
     number: u32,
     place: u32,
 ) -> Result<(), Fail> {
-    match answer {
-        Ok(_) => Err(Fail::new("the call was accepted")),
-        Err(why) => {
-            assert_eq!(rt; (why.number(), why.place()), (number, place));
-            Ok(())
-        },
-    }
+    let Err(why) = answer else {
+        return Err(Fail::new("the call was accepted"));
+    };
+    assert_eq!(rt; (why.number(), why.place()), (number, place));
+    Ok(())
 }
 
 // A graph of n tasks that take 1 each.
 pub fn with_tasks(rt: &impl Abort, heap: Global, n: u32) -> Result<TaskGraph, Fail> {
     let mut graph = TaskGraph::new(heap)?;
-    for task in 0..n {
-        assert_eq!(rt; graph.add_task(1)?, task + 1);
+    for task in 1..=n {
+        assert_eq!(rt; graph.add_task(1)?, task);
     }
     Ok(graph)
 }

@@ -6,15 +6,18 @@ use std::io;
 
 const MOST_WORDS: usize = 3587;
 
-// The numbers of a list of links, from its newest on.
+// The numbers of a list of links, from its newest on; it has no more links than there are, and 0 ends it.
 fn print_list(rt: &impl Print, links: &[Link], newest: u32) -> io::Result<()> {
-    let mut at = newest as usize;
-    for _ in 0..links.len() {
-        if at == 0 || at > links.len() {
+    let mut number = newest;
+    for _ in links {
+        let Some(at) = number.checked_sub(1) else {
             break;
-        }
-        print!(rt; " {at}")?;
-        at = links[at - 1].next as usize;
+        };
+        let Some(link) = links.get(at as usize) else {
+            break;
+        };
+        print!(rt; " {number}")?;
+        number = link.next;
     }
     Ok(())
 }
@@ -22,8 +25,7 @@ fn print_list(rt: &impl Print, links: &[Link], newest: u32) -> io::Result<()> {
 // Each task with its time and its outgoing links, the newest first.
 fn print_tasks(rt: &impl Print, graph: &TaskGraph) -> io::Result<()> {
     let links = graph.graph().links();
-    for (i, task) in graph.graph().tasks().iter().enumerate() {
-        let number = i as u64 + 1;
+    for (number, task) in (1u64..).zip(graph.graph().tasks()) {
         let time = task.time;
         print!(rt; "task {number} time {time} links")?;
         print_list(rt, links, task.newest)?;

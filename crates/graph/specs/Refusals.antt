@@ -1,5 +1,5 @@
--- The number and the place of each refusal of a call on a graph. All are of layer 1.
-use Rattle.std.specs.Prelude.{ℕ}
+-- The number, the place and the text of each refusal of a call on a graph. All are of layer 1.
+use Rattle.std.specs.Prelude.{ℕ, List, ◌++◌, codes, decimal}
 use Rattle.graph.specs.declared.records.Refusal.{Refusal}
 use Rattle.graph.specs.declared.records.Refusal.TheVariants.{WrongStage, TimeOutOfRange, TooManyTasks, NoSuchTask, SelfLink, SizeTooLarge, AlreadyLinked, TooManyLinks, NoTask, Circle, OutputTooShort}
 
@@ -28,3 +28,7 @@ place_of TooManyLinks = 0
 place_of NoTask = 0
 place_of (Circle t) = t
 place_of (OutputTooShort n) = n
+
+-- what a refusal is shown as: layer, number and place
+abbrev pub text_of : Refusal → List ℕ
+text_of why = decimal 1 ++ codes " " ++ decimal (number_of why) ++ codes " " ++ decimal (place_of why)

@@ -1,14 +1,14 @@
 // The plain records of a graph. This file has no clause, so that the specs may name its types.
 
 // A task: its time, and the number of its newest outgoing link, 0 where it has none.
-#[derive(Clone, Copy)]
+#[derive(Clone, Copy, PartialEq, Eq, Debug)]
 pub struct Task {
     pub time: u32,
     pub newest: u32,
 }
 
 // A link from a sender to a receiver, and the next older link of the same sender, 0 at the end of that list.
-#[derive(Clone, Copy)]
+#[derive(Clone, Copy, PartialEq, Eq, Debug)]
 pub struct Link {
     pub sender: u32,
     pub receiver: u32,

@@ -1,8 +1,12 @@
-// The numbers by which refusals are known outside.
+// The numbers by which refusals are known outside, and the text that shows them.
 ghost use Rattle.std.specs.Prelude.{◌≡◌};
 ghost use Rattle.graph.specs.Refusals.{number_of, place_of};
 
 use crate::records::Refusal;
+use std::fmt;
+
+// The layer of every refusal of a call on a graph.
+pub const LAYER: u32 = 1;
 
 impl Refusal {
     pub fn number(&self) -> u32
@@ -27,12 +31,31 @@ impl Refusal {
         ensures { result ≡ place_of self.now }
     {
         match self {
-            Refusal::NoSuchTask(task) => *task,
-            Refusal::SelfLink(task) => *task,
-            Refusal::AlreadyLinked(link) => *link,
-            Refusal::Circle(task) => *task,
-            Refusal::OutputTooShort(needed) => *needed,
-            _ => 0,
+            Refusal::NoSuchTask(place)
+            | Refusal::SelfLink(place)
+            | Refusal::AlreadyLinked(place)
+            | Refusal::Circle(place)
+            | Refusal::OutputTooShort(place) => *place,
+            Refusal::WrongStage
+            | Refusal::TimeOutOfRange
+            | Refusal::TooManyTasks
+            | Refusal::SizeTooLarge
+            | Refusal::TooManyLinks
+            | Refusal::NoTask => 0,
         }
+    }
+}
+
+// A refusal is shown by its layer, its number and its place.
+impl fmt::Display for Refusal {
+    ghost use Rattle.std.specs.Prelude.{Some};
+    ghost use Rattle.graph.specs.Refusals.{text_of};
+
+    ghost output = { λ why. Some (text_of why) };
+
+    fn fmt<W: fmt::Write>(&self, f: &mut fmt::Formatter<W>) -> fmt::Result {
+        let number = self.number();
+        let place = self.place();
+        write!(f, "{LAYER} {number} {place}")
     }
 }

@@ -3,14 +3,12 @@ ghost use Rattle.std.specs.Prelude.{◌≡◌, ◌+◌, ◌<◌, ◌≤◌, true
 ghost use Rattle.graph.specs.Net.{empty, linked, Sound};
 ghost use Rattle.graph.specs.Outgoing.{ListsAreExact};
 ghost use Rattle.graph.specs.Calls.{is_task, is_time, with_link, add_step, link_step, first_of};
-ghost use Rattle.graph.specs.Tables.{Shows};
-ghost use Rattle.graph.specs.Walks.{through, circle, close_rows, Processes, ReachesByWalks, NamesACircle};
+ghost use Rattle.graph.specs.Walks.{close_rows, Processes, ReachesByWalks, NamesACircle, some_number};
 ghost use Rattle.graph.specs.Of.{net_of};
 
 use crate::graph::Graph;
 use crate::limits::{MAX_LINKS, MAX_SIZE, MAX_TASKS, MAX_TIME};
-use crate::order::{counts_of, sorted};
-use crate::reach::{least_on_circle, reach_table};
+use crate::reach::ReachTable;
 use crate::records::{Link, Refusal, Task};
 use std::alloc::{AllocError, Global};
 
@@ -172,45 +170,27 @@ impl Graph {
     {}
 
     // The table of what each task reaches.
-    fn reach(&self) -> [bool; 65536]
-        ensures { Shows (length (net_of self.now).tasks) result (through (net_of self.now).links (length (net_of self.now).tasks)) }
+    fn reach(&self) -> ReachTable<'_>
+        ensures links { result.links.now ≡ (net_of self.now).links }
+        ensures tasks { result.tasks ≡ length (net_of self.now).tasks }
     {
-        reach_table(self.links.as_slice(), self.tasks.len())
-    }
-
-    // The least task on a circle, or 0.
-    fn circle_in(&self, table: &[bool; 65536]) -> u32
-        requires { Shows (length (net_of self.now).tasks) table.now (through (net_of self.now).links (length (net_of self.now).tasks)) }
-        ensures { result ≡ circle (net_of self.now) }
-    {
-        least_on_circle(table, self.tasks.len())
-    }
-
-    // The tasks in an order in which they can be processed, where there is no circle.
-    fn order_by(&self, table: &[bool; 65536]) -> [u32; 256]
-        requires shows { Shows (length (net_of self.now).tasks) table.now (through (net_of self.now).links (length (net_of self.now).tasks)) }
-        requires none { circle (net_of self.now) ≡ 0 }
-        ensures { Processes (length (net_of self.now).tasks) (net_of self.now).links (take (length (net_of self.now).tasks) result) }
-    {
-        let n = self.tasks.len();
-        sorted(&counts_of(table, n), n)
+        ReachTable::new(self.links.as_slice(), self.tasks.len())
     }
 
     // The order in which the tasks can be processed, in the first places of the answer.
-    pub fn processing_order(&self) -> Result<[u32; 256], Refusal>
+    pub fn processing_order(&self) -> Result<[u32; MAX_TASKS], Refusal>
         ensures answer { MatchResult result (λ order. (first_of (close_rows (net_of self.now)) ≡ None) × Processes (length (net_of self.now).tasks) (net_of self.now).links (take (length (net_of self.now).tasks) order)) (λ why. first_of (close_rows (net_of self.now)) ≡ Some why) }
         ensures walks { ReachesByWalks (net_of self.now) }
         ensures circles { NamesACircle (net_of self.now) }
     {
         self.circles_named();
-        if self.tasks.len() == 0 {
+        if self.tasks.is_empty() {
             return Err(Refusal::NoTask);
         }
         let table = self.reach();
-        let on = self.circle_in(&table);
-        if on != 0 {
+        if let Some(on) = table.least_on_circle() {
             return Err(Refusal::Circle(on));
         }
-        Ok(self.order_by(&table))
+        Ok(table.order())
     }
 }

@@ -1,9 +1,11 @@
 -- The walk along a sender's list of links.
-use Rattle.std.proofs.Common.{◌≡◌, ℕ, ◌+◌, ◌-◌, ◌<◌, ◌≤◌, Bool, eqb, List, length, get_or, take, sym, ap, ◌∙◌, arith}
+use Rattle.std.proofs.Common.{◌≡◌, ℕ, ◌+◌, ◌-◌, ◌<◌, ◌≤◌, Bool, eqb, List, length, get_or, take, Some, sym, ap, ◌∙◌, arith}
 use Rattle.std.proofs.lemmas.List.{take_all, get_or_read}
 use Rattle.std.proofs.lemmas.Bool.{and_left, and_right, and_from, eq-eqb, ne_eqb, eqb-true}
 use Rattle.graph.specs.declared.records.Link.{Link}
 use Rattle.graph.specs.Net.{no_link, newest_of, joins, linked, Threaded}
+use Rattle.graph.specs.Walks.{some_number}
+use Rattle.graph.proofs.Walks.{some_is}
 use Rattle.graph.proofs.LastOfs.{last_bound, last_hit, last_through, last_more_hit, last_more_miss}
 
 module _ (links : List Link) (s r : ℕ) where
@@ -62,8 +64,8 @@ module _ (links : List Link) (s r : ℕ) where
     is : l ≡ get_or links (at - 1) no_link
     is = get_or_read links (at - 1) l (omega (arith, seeking.bound)) read no_link
 
-    pub at_found : l.receiver ≡ r → at ≡ linked links s r
-    at_found e = sym back ∙ seek_found (at - 1) here (ap (λ (x : Link). x.receiver) (sym is) ∙ e)
+    pub at_found : l.receiver ≡ r → Some at ≡ some_number (linked links s r)
+    at_found e = some_is at nonzero ∙ ap some_number (sym back ∙ seek_found (at - 1) here (ap (λ (x : Link). x.receiver) (sym is) ∙ e))
 
     pub at_next : Threaded links → (l.receiver ≡ r → ⊥) → Seeking l.next
     at_next t ne = rw is (seek_next (at - 1) here t (λ e. ne (ap (λ (x : Link). x.receiver) is ∙ e)))

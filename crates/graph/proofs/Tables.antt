@@ -10,7 +10,7 @@ use Rattle.graph.specs.Net.{no_link, joins, linked}
 use Rattle.graph.specs.Tables.{at, Shows, count_below}
 use Rattle.graph.specs.Walks.{through, least, some_number}
 use Rattle.graph.proofs.LastOfs.{last_more_hit, last_more_miss}
-use Rattle.graph.proofs.Walks.{least_more, least_here, least_stays}
+use Rattle.graph.proofs.Walks.{some_is, least_more, least_here, least_stays}
 
 -- 256 rows of 256 places
 pub record Square (rows : List (List Bool)) : Type 0 where
@@ -172,4 +172,4 @@ least_found f p n (Some x) s same found e =
     let here : least p (suc x) ≡ suc x = least_here p x before (ap p (sym (add-one x)) ∙ sym (same x (omega arith)) ∙ found.0) in
     let far : suc x + (n - suc x) ≡ n = omega arith in
     let whole : least p n ≡ suc x = ap (least p) (sym far) ∙ least_far p (suc x) (n - suc x) (λ z. omega (arith, here)) ∙ here in
-    e ∙ ap Some (add-one x) ∙ sym (cond-false (eqb (suc x) 0) None (Some (suc x)) (ne_eqb (suc x) 0 (omega arith))) ∙ sym (ap some_number whole)
+    e ∙ ap Some (add-one x) ∙ some_is (suc x) (omega arith) ∙ sym (ap some_number whole)

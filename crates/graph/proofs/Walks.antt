@@ -1,12 +1,15 @@
 -- Which tasks reach which is what walks say.
-use Rattle.std.proofs.Common.{◌≡◌, ℕ, zero, suc, ◌+◌, ◌-◌, ◌<◌, ◌≤◌, Bool, true, false, cond, not, eqb, List, [], ◌∷◌, ◌++◌, length, get_or, take, sym, refl, ap, ◌∙◌, subst, ⊎_elim, arith}
+use Rattle.std.proofs.Common.{◌≡◌, ℕ, zero, suc, ◌+◌, ◌-◌, ◌<◌, ◌≤◌, Bool, true, false, cond, not, eqb, List, [], ◌∷◌, ◌++◌, length, get_or, take, Some, None, sym, refl, ap, ◌∙◌, subst, ⊎_elim, arith}
 use Rattle.std.proofs.lemmas.List.{take_all}
 use Rattle.std.proofs.lemmas.Bool.{both_ways, cases_Bool, cases_eq, and_parts, and_from, or_cases, or_left, or_right, not-true, not_from_false, eq-eqb, ne_eqb, eqb-true, eqb-false, cond-true, cond-false}
 use Rattle.graph.specs.declared.records.Link.{Link}
 use Rattle.graph.specs.LastOf.{last_of}
 use Rattle.graph.specs.Net.{Net, no_link, linked, joins, Joined}
-use Rattle.graph.specs.Walks.{Linked, Walk, through, reaches, least, circle, ReachesByWalks, NamesACircle}
+use Rattle.graph.specs.Walks.{Linked, Walk, through, reaches, least, circle, some_number, ReachesByWalks, NamesACircle}
 use Rattle.graph.proofs.LastOfs.{last_bound, last_hit, last_zero}
+
+pub some_is : (n : ℕ) → (n ≡ 0 → ⊥) → Some n ≡ some_number n
+some_is n ne = sym (cond-false (eqb n 0) None (Some n) (ne_eqb n 0 ne))
 
 -- the link that is found is one
 linked_is : (links : List Link) (a b : ℕ) → not (eqb (linked links a b) 0) ≡ true → Linked links a b

@@ -16,7 +16,7 @@ use std::alloc::{AllocError, Global};
 pub fn time_in_range(time: u32) -> bool
     ensures { result ≡ is_time time }
 {
-    time >= 1 && time <= MAX_TIME
+    (1..=MAX_TIME).contains(&time)
 }
 
 impl Link {
@@ -30,12 +30,6 @@ impl Link {
             size,
             next,
         }
-    }
-
-    fn goes_to(&self, task: u32) -> bool
-        ensures { result ≡ (self.now.receiver == task) }
-    {
-        self.receiver == task
     }
 }
 
@@ -76,7 +70,7 @@ impl Graph {
     pub fn has_task(&self, task: u32) -> bool
         ensures { result ≡ is_task (net_of self.now) task }
     {
-        task >= 1 && task as usize <= self.tasks.len()
+        (1..=self.tasks.len()).contains(&(task as usize))
     }
 
     // Takes one more task in, and answers its number.
@@ -93,21 +87,21 @@ impl Graph {
         Ok(self.tasks.len() as u32)
     }
 
-    // The number of the link of a pair, found along the sender's list, or 0.
-    fn find_link(&self, from: u32, to: u32) -> u32
+    // The number of the link of a pair, found along the sender's list, which ends at 0 as in the words of a job.
+    fn find_link(&self, from: u32, to: u32) -> Option<u32>
         requires some { 1 ≤ from }
         requires known { from ≤ vec_len self.now.tasks }
-        ensures { result ≡ linked self.now.links.items from to }
+        ensures { result ≡ some_number (linked self.now.links.items from to) }
     {
         let mut at = self.tasks[from as usize - 1].newest;
         while at != 0 {
             let link = self.links[at as usize - 1];
-            if link.goes_to(to) {
-                return at;
+            if link.receiver == to {
+                return Some(at);
             }
             at = link.next;
         }
-        0
+        None
     }
 
     // Puts a link that is allowed at the front of its sender's list.
@@ -145,8 +139,7 @@ impl Graph {
         if size > MAX_SIZE {
             return Err(Refusal::SizeTooLarge);
         }
-        let older = self.find_link(from, to);
-        if older != 0 {
+        if let Some(older) = self.find_link(from, to) {
             return Err(Refusal::AlreadyLinked(older));
         }
         if self.links.len() >= MAX_LINKS {

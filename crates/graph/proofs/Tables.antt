@@ -1,15 +1,16 @@
 -- A square table of 256 rows after a write, and counts.
-use Rattle.std.proofs.Common.{◌≡◌, ℕ, zero, suc, ◌+◌, ◌-◌, ◌<◌, ◌≤◌, Bool, true, false, cond, not, ◌&&◌, ◌||◌, eqb, List, [], ◌∷◌, length, get_or, take, set, Some, None, Option, sym, refl, ap, ◌∙◌, subst, ⊎_elim, add-one, zero-add, arith, length-set}
+use Rattle.std.proofs.Common.{◌≡◌, ℕ, zero, suc, ◌+◌, ◌-◌, ◌<◌, ◌≤◌, Bool, true, false, cond, not, ◌&&◌, ◌||◌, eqb, List, [], ◌∷◌, length, get_or, take, set, Some, None, Option, sym, refl, ap, ◌∙◌, subst, ⊎_elim, add-one, add-zero, zero-add, arith, length-set}
 use Rattle.std.proofs.lemmas.List.{get_or-set_same, get_or-set_other}
 use Rattle.std.proofs.lemmas.List.FromFn.{get_or-range_with_len, length-range_with_len}
 use Rattle.std.proofs.lemmas.Bool.{cases_eq, cases_Bool, and_from, and_left, and_right, eq-eqb, ne_eqb, cond-true, cond-false}
+use Rattle.std.proofs.lemmas.Bool.Decides.{nat_tests}
 use Rattle.std.specs.List.{range_with_len, AllWithin, HoldsAt}
 use Rattle.std.specs.Option.{MatchOption}
 use Rattle.graph.specs.declared.records.Link.{Link}
 use Rattle.graph.specs.Net.{no_link, joins, linked}
 use Rattle.graph.specs.Tables.{at, Shows, count_below}
 use Rattle.graph.specs.Walks.{through, least, some_number}
-use Rattle.graph.proofs.LastOfs.{last_more_hit, last_more_miss}
+use Rattle.graph.proofs.LastOfs.{last_take_more}
 use Rattle.graph.proofs.Walks.{some_is, least_more, least_here, least_stays}
 
 -- 256 rows of 256 places
@@ -18,28 +19,16 @@ pub record Square (rows : List (List Bool)) : Type 0 where
   pub wide : (a : ℕ) → a < 256 → length (get_or rows a []) ≡ 256
 
 module _ (rows : List (List Bool)) (square : Square rows) (x y : ℕ) (xs : x < 256) (ys : y < 256) (v : Bool) where
-  abbrev row : List Bool
-  row = set (get_or rows x []) y v
+  at_set_same : at (set rows x (set (get_or rows x []) y v)) x y ≡ v
+  at_set_same = let wide = square.wide x xs in grind (arith, get_or-set_same)
 
-  row_is : get_or (set rows x row) x [] ≡ row
-  row_is = get_or-set_same rows x row [] (omega (arith, square.tall))
+  at_set_other : (a b : ℕ) → ((a ≡ x) × (b ≡ y) → ⊥) → at (set rows x (set (get_or rows x []) y v)) a b ≡ at rows a b
+  at_set_other a b ne = let tall = square.tall in let wide = square.wide x xs in grind (arith, get_or-set_same, get_or-set_other, cases_eq a x, cases_eq b y)
 
-  at_set_same : at (set rows x row) x y ≡ v
-  at_set_same = ap (λ r. get_or r y false) row_is ∙ get_or-set_same (get_or rows x []) y v false (omega (arith, square.wide x xs))
-
-  at_set_other : (a b : ℕ) → ((a ≡ x) × (b ≡ y) → ⊥) → at (set rows x row) a b ≡ at rows a b
-  at_set_other a b ne = ⊎_elim
-      (λ (p : a ≡ x). rw p (ap (λ r. get_or r b false) row_is ∙ get_or-set_other (get_or rows x []) y b v false (λ q. ne (p, q))))
-      (λ (p : a ≡ x → ⊥). ap (λ r. get_or r b false) (get_or-set_other rows x a row [] p))
-      (cases_eq a x)
-
-  pub square_set : Square (set rows x row)
+  pub square_set : Square (set rows x (set (get_or rows x []) y v))
   square_set = record {
-    tall = length-set rows x row ∙ square.tall;
-    wide = λ a l. ⊎_elim
-      (λ (p : a ≡ x). rw p (ap length row_is ∙ length-set (get_or rows x []) y v ∙ square.wide x xs))
-      (λ (p : a ≡ x → ⊥). ap length (get_or-set_other rows x a row [] p) ∙ square.wide a l)
-      (cases_eq a x);
+    tall = length-set rows x _ ∙ square.tall;
+    wide = λ a l. let there = square.wide x xs in let here = square.wide a l in grind (arith, get_or-set_same, get_or-set_other, length-set, cases_eq a x);
   }
 
 -- the table of one link more
@@ -47,24 +36,11 @@ module _ (links : List Link) (i : ℕ) (h : i < length links) (rows : List (List
     (s r : ℕ) (si : (get_or links i no_link).sender ≡ s) (ri : (get_or links i no_link).receiver ≡ r) (s1 : 1 ≤ s) (s2 : s ≤ 256) (r1 : 1 ≤ r) (r2 : r ≤ 256) where
   pub direct_more : Shows (set rows (s - 1) (set (get_or rows (s - 1) []) (r - 1) true)) (through (take (i + 1) links) 0)
   direct_more a b la lb =
-      let x = get_or links i no_link in
-      let to = joins (a + 1) (b + 1) in
-      let miss : ((a ≡ s - 1) × (b ≡ r - 1) → ⊥) → to x ≡ false → at (set rows (s - 1) (set (get_or rows (s - 1) []) (r - 1) true)) a b ≡ not (eqb (linked (take (i + 1) links) (a + 1) (b + 1)) 0) =
-      λ apart no. at_set_other rows square (s - 1) (r - 1) (omega arith) (omega arith) true a b apart ∙ shows a b la lb ∙ ap (λ n. not (eqb n 0)) (sym (last_more_miss to links i no_link h no)) in
-      ⊎_elim
-      (λ (p : a ≡ s - 1). ⊎_elim
-      (λ (q : b ≡ r - 1).
-      let hit : to x ≡ true = and_from _ _ (eq-eqb x.sender (a + 1) (omega arith)) (eq-eqb x.receiver (b + 1) (omega arith)) in
-      let read : at (set rows (s - 1) (set (get_or rows (s - 1) []) (r - 1) true)) a b ≡ true = rw (p, q) (at_set_same rows square (s - 1) (r - 1) (omega arith) (omega arith) true) in
-      read ∙ sym (ap (λ n. not (eqb n 0)) (last_more_hit to links i no_link h hit) ∙ ap not (ne_eqb (i + 1) 0 (omega arith))))
-      (λ (q : b ≡ r - 1 → ⊥). miss (λ e. q e.1) (and_right _ _ (ne_eqb x.receiver (b + 1) (λ (e : x.receiver ≡ b + 1). q (omega arith)))))
-      (cases_eq b (r - 1)))
-      (λ (p : a ≡ s - 1 → ⊥). miss (λ e. p e.0) (and_left _ _ (ne_eqb x.sender (a + 1) (λ (e : x.sender ≡ a + 1). p (omega arith)))))
-      (cases_eq a (s - 1))
-
-pub or_false : (x : Bool) → (x || false) ≡ x
-or_false true = refl
-or_false false = refl
+      let new = last_take_more (joins (a + 1) (b + 1)) links i no_link h in
+      let old = shows a b la lb in
+      let same = at_set_same rows square (s - 1) (r - 1) (omega arith) (omega arith) true in
+      let other = at_set_other rows square (s - 1) (r - 1) (omega arith) (omega arith) true a b in
+      grind (arith, nat_tests, cases_eq a (s - 1), cases_eq b (r - 1))
 
 -- the rows below i have let one task through, and the others are as they were
 pub record Passing (E T : List (List Bool)) (via i : ℕ) : Type 0 where
@@ -76,82 +52,64 @@ pub pass_more : (E T : List (List Bool)) (via i : ℕ) (row : List Bool) → i <
     → ((b : ℕ) → b < 256 → get_or row b false ≡ (at E i b || (at E i via && at E via b))) → Passing E (set T i row) via (i + 1)
 pass_more E T via i row il p new = record {
   tall = length-set T i row ∙ p.tall;
-  done = λ a b la lb. ⊎_elim
-    (λ (e : a ≡ i). rw e (ap (λ r. get_or r b false) (get_or-set_same T i row [] (omega (arith, p.tall))) ∙ new b lb))
-    (λ (ne : a ≡ i → ⊥). ap (λ r. get_or r b false) (get_or-set_other T i a row [] ne) ∙ p.done a b (omega arith) lb)
-    (cases_eq a i);
-  left = λ a l. get_or-set_other T i a row [] (omega arith) ∙ p.left a (omega arith);
+  done = λ a b la lb. let here = new b lb in let before = p.done a b in grind (arith, get_or-set_same, get_or-set_other, cases_eq a i);
+  left = λ a l. let after = p.left a in grind (arith, get_or-set_other);
 }
 
 -- the table after one more task was let through
 pub shows_more : (links : List Link) (k : ℕ) (rows rows' : List (List Bool)) → k < 256 → Shows rows (through links k)
     → ((a b : ℕ) → a < 256 → b < 256 → at rows' a b ≡ (at rows a b || (at rows a k && at rows k b))) → Shows rows' (through links (k + 1))
 shows_more links k rows rows' l shows passes a b la lb =
-    let f = through links k in
-    passes a b la lb
-    ∙ ap (λ t. t || (at rows a k && at rows k b)) (shows a b la lb)
-    ∙ ap (λ t. f (a + 1) (b + 1) || (t && at rows k b)) (shows a k la l)
-    ∙ ap (λ t. f (a + 1) (b + 1) || (f (a + 1) (k + 1) && t)) (shows k b l lb)
-    ∙ ap (λ m. f (a + 1) (b + 1) || (f (a + 1) m && f m (b + 1))) (add-one k)
-    ∙ ap (λ m. through links m (a + 1) (b + 1)) (sym (add-one k))
+    let here = passes a b la lb in
+    let straight = shows a b la lb in
+    let before = shows a k la l in
+    let after = shows k b l lb in
+    rw (add-one k) (cc (add-one k))
 
 -- where none passes, there is no least
 least_zero : (p : ℕ → Bool) (n : ℕ) → ((j : ℕ) → j < n → p (j + 1) ≡ false) → least p n ≡ 0
 least_zero p zero h = refl
-least_zero p (suc n) h = least_more p n (least_zero p n (λ j l. h j (omega arith))) (rw (← add-one n) (h n (omega arith)))
-
-counted_yes : (p : ℕ → Bool) (n : ℕ) → p n ≡ true → ◌≡◌ {A = ℕ} (cond (p n) 1 0) 1
-counted_yes p n y = cond-true (p n) 1 0 y
-
-counted_no : (p : ℕ → Bool) (n : ℕ) → p n ≡ false → ◌≡◌ {A = ℕ} (cond (p n) 1 0) 0
-counted_no p n y = cond-false (p n) 1 0 y
+least_zero p (suc n) h =
+    let ih = least_zero p n (λ j l. h j (omega arith)) in
+    let here = rw add-one at (h n (omega arith)) in
+    grind (arith, nat_tests)
 
 -- of two tests, where the first passes only what the second does, and once less
 pub count_le : (p q : ℕ → Bool) (n : ℕ) → ((k : ℕ) → k < n → p k ≡ true → q k ≡ true) → count_below p n ≤ count_below q n
 count_le p q zero h = omega arith
 count_le p q (suc n) h =
+    let here = h n (omega arith) in
     let ih : count_below p n ≤ count_below q n = count_le p q n (λ k l. h k (omega arith)) in
-    ⊎_elim
-    (λ y. omega (arith, counted_yes p n y, counted_yes q n (h n (omega arith) y)))
-    (λ y. omega (arith, counted_no p n y))
-    (cases_Bool (p n))
+    grind (arith, nat_tests)
 
 pub count_lt : (p q : ℕ → Bool) (n j : ℕ) → ((k : ℕ) → k < n → p k ≡ true → q k ≡ true) → j < n → p j ≡ false → q j ≡ true → count_below p n < count_below q n
 count_lt p q zero j h l miss hit = absurd (omega arith)
 count_lt p q (suc n) j h l miss hit =
+    let here = h n (omega arith) in
+    let le = count_le p q n (λ k l. h k (omega arith)) in
     ⊎_elim
-    (λ (e : j ≡ n).
-    omega (arith, counted_no p n (subst (λ k. p k ≡ false) e miss), counted_yes q n (subst (λ k. q k ≡ true) e hit), count_le p q n (λ k l. h k (omega arith))))
-    (λ (ne : j ≡ n → ⊥).
-    let ih : count_below p n < count_below q n = count_lt p q n j (λ k l. h k (omega arith)) (omega arith) miss hit in
-    ⊎_elim
-    (λ y. omega (arith, counted_yes p n y, counted_yes q n (h n (omega arith) y)))
-    (λ y. omega (arith, counted_no p n y))
-    (cases_Bool (p n)))
+    (λ (e : j ≡ n). let m = rw e at miss in let y = rw e at hit in grind (arith, nat_tests))
+    (λ (ne : j ≡ n → ⊥). let ih : count_below p n < count_below q n = count_lt p q n j (λ k l. h k (omega arith)) (omega arith) miss hit in grind (arith, nat_tests))
     (cases_eq j n)
 
 pub count_bound : (p : ℕ → Bool) (n : ℕ) → count_below p n ≤ n
 count_bound p zero = omega arith
-count_bound p (suc n) = ⊎_elim
-    (λ y. omega (arith, counted_yes p n y, count_bound p n))
-    (λ y. omega (arith, counted_no p n y, count_bound p n))
-    (cases_Bool (p n))
+count_bound p (suc n) = let ih = count_bound p n in grind (arith, nat_tests)
 
 -- one number more
 pub count_hit : (p : ℕ → Bool) (n : ℕ) → p n ≡ true → count_below p (n + 1) ≡ count_below p n + 1
-count_hit p n y = ap (count_below p) (add-one n) ∙ omega (arith, counted_yes p n y)
+count_hit p n y = ap (count_below p) (add-one n) ∙ grind (arith, nat_tests)
 
 pub count_miss : (p : ℕ → Bool) (n : ℕ) → p n ≡ false → count_below p (n + 1) ≡ count_below p n
-count_miss p n y = ap (count_below p) (add-one n) ∙ omega (arith, counted_no p n y)
+count_miss p n y = ap (count_below p) (add-one n) ∙ grind (arith, nat_tests)
 
 -- what passes first stays the least
 pub least_far : (p : ℕ → Bool) (n k : ℕ) → (least p n ≡ 0 → ⊥) → least p (n + k) ≡ least p n
-least_far p n zero nz = let e : n + 0 ≡ n = omega arith in ap (least p) e
+least_far p n zero nz = rw add-zero refl
 least_far p n (suc k) nz =
+    let ih = least_far p n k nz in
     let e : n + suc k ≡ suc (n + k) = omega arith in
-    let ih : least p (n + k) ≡ least p n = least_far p n k nz in
-    ap (least p) e ∙ least_stays p (n + k) (λ z. nz (sym ih ∙ z)) ∙ ih
-
+    ap (least p) e ∙ grind (arith, nat_tests)
 
 -- what a search from the front finds is the least
 pub least_found : (f p : ℕ → Bool) (n : ℕ) (r s : Option ℕ) → ((t : ℕ) → t < n → f t ≡ p (t + 1))

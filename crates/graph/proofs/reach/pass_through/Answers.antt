@@ -1,6 +1,5 @@
-use Rattle.std.proofs.Common.{◌≡◌, ◌+◌, Bool, false, ◌&&◌, ◌||◌, List, get_or, sym, ap, ◌∙◌, subst, arith}
-use Rattle.graph.specs.Tables.{at}
-use Rattle.graph.proofs.Tables.{Passing, pass_more, or_false}
+use Rattle.std.proofs.Common.{ℕ, ◌+◌, Bool, false, List, get_or, sym, ap, subst, arith}
+use Rattle.graph.proofs.Tables.{Passing, pass_more}
 use Rattle.graph.proofs.reach.pass_through.Goals as goal
 use Rattle.graph.proofs.reach.pass_through.Goals.{then-row-via, else-row-via}
 
@@ -9,13 +8,11 @@ loop-row-preserved c =
     let E = c.args.rows.now in
     let i = c.loop-row.row-index in
     let P : List (List Bool) → Type 0 = λ T. Passing E T c.args.via (i + 1) in
-    let same = c.loop-row.invariant.left i (omega arith) in
-    let at_via = ap (λ r. get_or r c.args.via false) (sym same) in
+    let same = λ (b : ℕ). ap (λ r. get_or r b false) (c.loop-row.invariant.left i (omega arith)) in
+    let more = λ (row : List Bool). pass_more E c.loop-row.row-items c.args.via i row c.loop-row-test.true c.loop-row.invariant in
     elim c.if-row-via.branch [
-      | then-row-via w ↦ subst P (sym w.row-items-is) (pass_more E c.loop-row.row-items c.args.via i _ c.loop-row-test.true c.loop-row.invariant (λ b l.
-        w.unite.ensures b l ∙ ap (λ r. get_or r b false || at E c.args.via b) same ∙ ap (λ t. at E i b || (t && at E c.args.via b)) (sym (at_via ∙ w.if-row-via.true))))
-      | else-row-via w ↦ subst P (sym w.row-items-is) (pass_more E c.loop-row.row-items c.args.via i _ c.loop-row-test.true c.loop-row.invariant (λ b l.
-        ap (λ r. get_or r b false) same ∙ sym (ap (λ t. at E i b || (t && at E c.args.via b)) (at_via ∙ w.if-row-via.false) ∙ or_false (at E i b))))
+      | then-row-via w ↦ subst P (sym w.row-items-is) (more _ (λ b l. let held = same c.args.via in let here = same b in let new = w.unite.ensures b l in let test = w.if-row-via.true in grind arith))
+      | else-row-via w ↦ subst P (sym w.row-items-is) (more _ (λ b l. let held = same c.args.via in let here = same b in let test = w.if-row-via.false in grind arith))
     ]
 
 pub returns : goal.returns

@@ -75,12 +75,8 @@ module _ {X : Type 0} (p q : X → Bool) (narrows : (x : X) → p x ≡ false �
   pub last_through : (xs : List X) (d : X) (i : ℕ) → i ≤ length xs → last_of q (take i xs) ≡ last_of q (take (last_of p (take i xs)) xs)
   last_through xs d zero h = refl
   last_through xs d (suc i) h =
-      let l : i < length xs = omega arith in
-      let n : suc i ≡ i + 1 = omega arith in
-      let P : ℕ → Type 0 = λ m. last_of q (take m xs) ≡ last_of q (take (last_of p (take m xs)) xs) in
-      let goal : P (i + 1) =
-      ⊎_elim
-      (λ t. ap (λ m. last_of q (take m xs)) (sym (last_more_hit p xs i d l t)))
-      (λ t. last_more_miss q xs i d l (narrows (get_or xs i d) t) ∙ last_through xs d i (omega arith) ∙ ap (λ m. last_of q (take m xs)) (sym (last_more_miss p xs i d l t)))
-      (cases_Bool (p (get_or xs i d))) in
-      rw n goal
+      let by_p = last_take_more p xs i d (omega arith) in
+      let by_q = last_take_more q xs i d (omega arith) in
+      let none = narrows (get_or xs i d) in
+      let ih = last_through xs d i (omega arith) in
+      rw (← add-one i) (⊎_elim (λ (t : p (get_or xs i d) ≡ true). grind (arith, nat_tests)) (λ (t : p (get_or xs i d) ≡ false). grind (arith, nat_tests)) (cases_Bool (p (get_or xs i d))))

@@ -16,13 +16,11 @@ some_is n ne = sym (cond-false (eqb n 0) None (Some n) (ne_eqb n 0 ne))
 linked_is : (links : List Link) (a b : ℕ) → not (eqb (linked links a b) 0) ≡ true → Linked links a b
 linked_is links a b e =
     let n = linked links a b in
-    let whole : take (length links) links ≡ links = take_all (length links) links (omega arith) in
-    let ne : n ≡ 0 → ⊥ = eqb-false n 0 (not-true _ e) in
-    let bound : n ≤ length links = subst (λ (xs : List Link). last_of (joins a b) xs ≤ length links) whole (last_bound (joins a b) links no_link (length links) (omega arith)) in
-    let back : (n - 1) + 1 ≡ n = omega arith in
-    let hit = last_hit (joins a b) links no_link (length links) (n - 1) (omega arith) (ap (last_of (joins a b)) whole ∙ sym back) in
-    let p = and_parts _ _ hit in
-    (n - 1, omega arith, eqb-true _ _ p.0, eqb-true _ _ p.1)
+    let whole = take_all (length links) links (omega arith) in
+    let bound : n ≤ length links = rw whole at (last_bound (joins a b) links no_link (length links) (omega arith)) in
+    let back : n ≡ (n - 1) + 1 = grind (arith, nat_tests) in
+    let hit = last_hit (joins a b) links no_link (length links) (n - 1) (omega arith) (rw whole back) in
+    (n - 1, omega arith, grind (arith, nat_tests), grind (arith, nat_tests))
 
 -- a link is found
 is_linked : (links : List Link) (a b : ℕ) → Linked links a b → not (eqb (linked links a b) 0) ≡ true

@@ -1,5 +1,6 @@
 // Which tasks reach which, in a table of a row for each task: the place b of the row a is for the tasks a + 1 and b + 1.
 ghost use Rattle.std.specs.Prelude.{◌≡◌, ℕ, ◌+◌, ◌-◌, ◌<◌, ◌≤◌, false, ◌&&◌, ◌||◌, length, slice_index_or};
+ghost use Rattle.graph.specs.declared.limits.TheConstants.{MAX_TASKS};
 ghost use Rattle.graph.specs.Net.{Joined};
 ghost use Rattle.graph.specs.Walks.{through, least, some_number};
 ghost use Rattle.graph.specs.Tables.{at, Shows};
@@ -17,14 +18,14 @@ pub(crate) struct ReachTable<'a> {
     pub(crate) links: &'a [Link],
     pub(crate) tasks: usize,
     pub(crate) rows: Rows,
-    ghost few: { tasks ≤ 256 },
+    ghost few: { tasks ≤ MAX_TASKS },
     ghost joined: { Joined tasks links.now },
     ghost shows: { Shows rows (through links.now tasks) },
 }
 
 // The rows of the links alone.
 fn direct(links: &[Link]) -> Rows
-    requires { Joined 256 links.now }
+    requires { Joined MAX_TASKS links.now }
     ensures { Shows result (through links.now 0) }
 {
     let mut rows = [[false; MAX_TASKS]; MAX_TASKS];
@@ -36,7 +37,7 @@ fn direct(links: &[Link]) -> Rows
 
 // Adds to a row what another holds.
 fn unite(row: &mut Row, other: &Row)
-    ensures { (b : ℕ) → b < 256 → slice_index_or row.new b false ≡ (slice_index_or row.old b false || slice_index_or other.now b false) }
+    ensures { (b : ℕ) → b < MAX_TASKS → slice_index_or row.new b false ≡ (slice_index_or row.old b false || slice_index_or other.now b false) }
 {
     for (b, here) in row.iter_mut().enumerate() {
         *here |= other[b];
@@ -45,8 +46,8 @@ fn unite(row: &mut Row, other: &Row)
 
 // Lets each task that reaches one task reach all that this one reaches.
 fn pass_through(rows: &mut Rows, via: usize)
-    requires { via < 256 }
-    ensures { (a b : ℕ) → a < 256 → b < 256 → at rows.new a b ≡ (at rows.old a b || (at rows.old a via && at rows.old via b)) }
+    requires { via < MAX_TASKS }
+    ensures { (a b : ℕ) → a < MAX_TASKS → b < MAX_TASKS → at rows.new a b ≡ (at rows.old a b || (at rows.old a via && at rows.old via b)) }
 {
     let onward = rows[via];
     for row in rows {
@@ -58,7 +59,7 @@ fn pass_through(rows: &mut Rows, via: usize)
 
 // The rows of what each task reaches over one or more links, where only the first tasks stand in between.
 fn closed(links: &[Link], tasks: usize) -> Rows
-    requires few { tasks ≤ 256 }
+    requires few { tasks ≤ MAX_TASKS }
     requires joined { Joined tasks links.now }
     ensures { Shows result (through links.now tasks) }
 {
@@ -71,7 +72,7 @@ fn closed(links: &[Link], tasks: usize) -> Rows
 
 impl<'a> ReachTable<'a> {
     pub(crate) fn new(links: &'a [Link], tasks: usize) -> ReachTable<'a>
-        requires few { tasks ≤ 256 }
+        requires few { tasks ≤ MAX_TASKS }
         requires joined { Joined tasks links.now }
         ensures links { result.links.now ≡ links.now }
         ensures tasks { result.tasks ≡ tasks }
@@ -80,12 +81,20 @@ impl<'a> ReachTable<'a> {
         ReachTable { links, tasks, rows }
     }
 
+    // Whether the task of a place reaches itself.
+    fn on_circle(&self, place: usize) -> bool
+        requires { place < MAX_TASKS }
+        ensures { result ≡ at self.now.rows place place }
+    {
+        self.rows[place][place]
+    }
+
     // The least task that reaches itself.
     pub(crate) fn least_on_circle(&self) -> Option<u32>
         ensures { result ≡ some_number (least (λ t. through self.now.links.now self.now.tasks t t) self.now.tasks) }
     {
         (0..self.tasks)
-            .find(|task| self.rows[*task][*task])
-            .map(|task| task as u32 + 1)
+            .find(|place| self.on_circle(*place))
+            .map(|place| place as u32 + 1)
     }
 }

@@ -109,9 +109,9 @@ impl Graph {
         requires sender { is_task (net_of self.old) from ≡ true }
         requires receiver { is_task (net_of self.old) to ≡ true }
         requires unlooped { from ≢ to }
-        requires sized { size ≤ 1000000 }
+        requires sized { size ≤ MAX_SIZE }
         requires single { linked self.old.links.items from to ≡ 0 }
-        requires room { vec_len self.old.links < 1024 }
+        requires room { vec_len self.old.links < MAX_LINKS }
         ensures value { result ≡ length self.old.links.items + 1 }
         ensures after { net_of self.new ≡ with_link (net_of self.old) from to size }
     {

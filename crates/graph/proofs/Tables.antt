@@ -1,17 +1,17 @@
 -- A square table of 256 rows after a write, and counts.
-use Rattle.std.proofs.Common.{◌≡◌, ℕ, zero, suc, ◌+◌, ◌-◌, ◌<◌, ◌≤◌, Bool, true, false, cond, not, ◌&&◌, ◌||◌, eqb, List, [], ◌∷◌, length, get_or, take, set, Some, None, Option, sym, refl, ap, ◌∙◌, subst, ⊎_elim, add-one, add-zero, zero-add, arith, length-set}
+use Rattle.std.proofs.Common.{◌≡◌, ℕ, zero, suc, ◌+◌, ◌-◌, ◌<◌, ◌≤◌, Bool, true, false, ◌&&◌, ◌||◌, List, [], length, get_or, take, set, Some, None, Option, sym, refl, ap, ◌∙◌, subst, ⊎_elim, add-one, add-zero, zero-add, arith, length-set}
 use Rattle.std.proofs.lemmas.List.{get_or-set_same, get_or-set_other}
 use Rattle.std.proofs.lemmas.List.FromFn.{get_or-range_with_len, length-range_with_len}
-use Rattle.std.proofs.lemmas.Bool.{cases_eq, cases_Bool, and_from, and_left, and_right, eq-eqb, ne_eqb, cond-true, cond-false}
+use Rattle.std.proofs.lemmas.Bool.{cases_eq}
 use Rattle.std.proofs.lemmas.Bool.Decides.{nat_tests}
 use Rattle.std.specs.List.{range_with_len, AllWithin, HoldsAt}
 use Rattle.std.specs.Option.{MatchOption}
 use Rattle.graph.specs.declared.records.Link.{Link}
-use Rattle.graph.specs.Net.{no_link, joins, linked}
+use Rattle.graph.specs.Net.{no_link, joins}
 use Rattle.graph.specs.Tables.{at, Shows, count_below}
 use Rattle.graph.specs.Walks.{through, least, some_number}
 use Rattle.graph.proofs.LastOfs.{last_take_more}
-use Rattle.graph.proofs.Walks.{some_is, least_more, least_here, least_stays}
+use Rattle.graph.proofs.Walks.{some_is, least_here}
 
 -- 256 rows of 256 places
 pub record Square (rows : List (List Bool)) : Type 0 where
@@ -114,7 +114,7 @@ least_far p n (suc k) nz =
 -- what a search from the front finds is the least
 pub least_found : (f p : ℕ → Bool) (n : ℕ) (r s : Option ℕ) → ((t : ℕ) → t < n → f t ≡ p (t + 1))
     → MatchOption r (AllWithin (λ t. f t ≡ false) (range_with_len 0 n) 0 (length (range_with_len 0 n)))
-      (λ x. (f x ≡ true) × (i : ℕ) × (i < length (range_with_len 0 n)) × HoldsAt (λ y. y ≡ x) (range_with_len 0 n) i × AllWithin (λ t. f t ≡ false) (range_with_len 0 n) 0 i)
+    (λ x. (f x ≡ true) × (i : ℕ) × (i < length (range_with_len 0 n)) × HoldsAt (λ y. y ≡ x) (range_with_len 0 n) i × AllWithin (λ t. f t ≡ false) (range_with_len 0 n) 0 i)
     → MatchOption r (s ≡ None) (λ x. s ≡ Some (x + 1)) → s ≡ some_number (least p n)
 least_found f p n None s same none e =
     let long : length (range_with_len 0 n) ≡ n = length-range_with_len 0 n in

@@ -31,7 +31,6 @@ module _ (links : List Link) (threaded : Threaded links) (s : ℕ) where
 pub lists_are_exact : (net : Net) → Sound net.tasks net.links → ListsAreExact net
 lists_are_exact net sound i more lt =
     let links = net.links in
-    let whole : take (length links) links ≡ links = take_all (length links) links (omega arith) in
-    let head : (get_or net.tasks i no_task).newest ≡ newest_of (take (length links) links) (i + 1) = sound.headed i lt ∙ ap (λ (ls : List Link). newest_of ls (i + 1)) (sym whole) in
-    let bound : newest_of (take (length links) links) (i + 1) ≤ length links = last_bound (λ l. eqb l.sender (i + 1)) links no_link (length links) (omega arith) in
-    ap (along links (length links + more)) head ∙ follow links sound.threaded (i + 1) (length links) (length links + more) (omega arith) (omega arith)
+    let whole = take_all (length links) links (omega arith) in
+    let bound = last_bound (λ l. eqb l.sender (i + 1)) links no_link (length links) (omega arith) in
+    ap (along links (length links + more)) (sound.headed i lt) ∙ rw whole at (follow links sound.threaded (i + 1) (length links) (length links + more) (omega arith) (omega arith))

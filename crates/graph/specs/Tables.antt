@@ -5,7 +5,7 @@ use Rattle.graph.specs.declared.limits.TheConstants.{MAX_TASKS}
 abbrev pub at : List (List Bool) → ℕ → ℕ → Bool
 at rows a b = slice_index_or (slice_index_or rows a []) b false
 
--- the table shows f, over numbers from 1
+-- the table shows f, over numbers from 1, in all its rows and columns
 abbrev pub Shows : List (List Bool) → (ℕ → ℕ → Bool) → Type 0
 Shows rows f = (a b : ℕ) → a < MAX_TASKS → b < MAX_TASKS → at rows a b ≡ f (a + 1) (b + 1)
 

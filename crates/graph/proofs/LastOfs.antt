@@ -1,7 +1,8 @@
 -- Laws of `last_of`. Assumes nothing.
-use Rattle.std.proofs.Common.{◌≡◌, ℕ, zero, suc, ◌+◌, ◌<◌, ◌≤◌, Bool, true, false, cond, List, [], ◌∷◌, ◌++◌, length, get_or, take, sym, refl, ap, ◌∙◌, ⊎_elim, zero-le, add-zero, arith}
+use Rattle.std.proofs.Common.{◌≡◌, ℕ, zero, suc, ◌+◌, ◌<◌, ◌≤◌, Bool, true, false, cond, List, [], ◌∷◌, ◌++◌, length, get_or, take, sym, refl, ap, ◌∙◌, ⊎_elim, zero-le, add-one, add-zero, arith}
 use Rattle.std.proofs.lemmas.List.{take_more, length-take-le, take_all}
 use Rattle.std.proofs.lemmas.Bool.{cases_Bool, cases_eq, cond-true, cond-false}
+use Rattle.std.proofs.lemmas.Bool.Decides.{nat_tests}
 use Rattle.graph.specs.LastOf.{last_from, last_of}
 
 module _ {X : Type 0} (p : X → Bool) where
@@ -41,52 +42,41 @@ module _ {X : Type 0} (p : X → Bool) where
   pub last_bound : (xs : List X) (d : X) (i : ℕ) → i ≤ length xs → last_of p (take i xs) ≤ i
   last_bound xs d zero h = zero-le
   last_bound xs d (suc i) h =
-      let l : i < length xs = omega arith in
-      let e : last_of p (take (suc i) xs) ≡ last_of p (take (i + 1) xs) = let n : suc i ≡ i + 1 = omega arith in ap (λ m. last_of p (take m xs)) n in
+      let more = last_take_more xs i d (omega arith) in
       let ih = last_bound xs d i (omega arith) in
-      ⊎_elim
-      (λ t. omega (arith, e, last_more_hit xs i d l t))
-      (λ t. omega (arith, e, ih, last_more_miss xs i d l t))
-      (cases_Bool (p (get_or xs i d)))
+      rw (← add-one i) (grind (arith, nat_tests))
 
   -- the one that is found passes
   pub last_hit : (xs : List X) (d : X) (i k : ℕ) → i ≤ length xs → last_of p (take i xs) ≡ k + 1 → p (get_or xs k d) ≡ true
   last_hit xs d zero k h e = absurd (omega arith)
   last_hit xs d (suc i) k h e =
-      let l : i < length xs = omega arith in
-      let s : last_of p (take (suc i) xs) ≡ last_of p (take (i + 1) xs) = let n : suc i ≡ i + 1 = omega arith in ap (λ m. last_of p (take m xs)) n in
+      let more = last_take_more xs i d (omega arith) in
       ⊎_elim
-      (λ t. let same : i ≡ k = omega (arith, s, e, last_more_hit xs i d l t) in rw same at t)
-      (λ t. last_hit xs d i k (omega arith) (sym (last_more_miss xs i d l t) ∙ sym s ∙ e))
+      (λ (t : p (get_or xs i d) ≡ true). let same : i ≡ k = grind (arith, nat_tests) in rw same at t)
+      (λ (t : p (get_or xs i d) ≡ false). last_hit xs d i k (omega arith) (grind (arith, nat_tests)))
       (cases_Bool (p (get_or xs i d)))
 
   -- where the answer is 0, nothing passes
   pub last_zero : (d : X) (xs : List X) → last_of p xs ≡ 0 → (i : ℕ) → i < length xs → p (get_or xs i d) ≡ false
-  last_zero d xs e i lt =
-      let whole : take (length xs) xs ≡ xs = take_all (length xs) xs (omega arith) in
-      none_up_to (length xs) (omega arith) (ap (last_of p) whole ∙ e) i lt
+  last_zero d xs e i lt = none_up_to (length xs) (omega arith) (rw (take_all (length xs) xs (omega arith)) e) i lt
     where
       none_up_to : (n : ℕ) → n ≤ length xs → last_of p (take n xs) ≡ 0 → (i : ℕ) → i < n → p (get_or xs i d) ≡ false
       none_up_to zero h e i l = absurd (omega arith)
       none_up_to (suc n) h e i l =
-          let m : n < length xs = omega arith in
-          let s : last_of p (take (suc n) xs) ≡ last_of p (take (n + 1) xs) = let q : suc n ≡ n + 1 = omega arith in ap (λ m. last_of p (take m xs)) q in
+          let more = last_take_more xs n d (omega arith) in
+          let none : last_of p (take n xs) ≡ 0 = grind (arith, nat_tests) in
           ⊎_elim
-          (λ t. absurd (omega (arith, s, e, last_more_hit xs n d m t)))
-          (λ t. ⊎_elim (λ (same : i ≡ n). rw same t) (λ (ne : i ≡ n → ⊥). none_up_to n (omega arith) (sym (last_more_miss xs n d m t) ∙ sym s ∙ e) i (omega arith)) (cases_eq i n))
-          (cases_Bool (p (get_or xs n d)))
+          (λ (same : i ≡ n). rw same (grind (arith, nat_tests)))
+          (λ (ne : i ≡ n → ⊥). none_up_to n (omega arith) none i (omega arith))
+          (cases_eq i n)
 
 -- what passes q passes p: the last of q stands no later than the last of p
 module _ {X : Type 0} (p q : X → Bool) (narrows : (x : X) → p x ≡ false → q x ≡ false) where
   pub last_through : (xs : List X) (d : X) (i : ℕ) → i ≤ length xs → last_of q (take i xs) ≡ last_of q (take (last_of p (take i xs)) xs)
   last_through xs d zero h = refl
   last_through xs d (suc i) h =
-      let l : i < length xs = omega arith in
-      let n : suc i ≡ i + 1 = omega arith in
-      let P : ℕ → Type 0 = λ m. last_of q (take m xs) ≡ last_of q (take (last_of p (take m xs)) xs) in
-      let goal : P (i + 1) =
-      ⊎_elim
-      (λ t. ap (λ m. last_of q (take m xs)) (sym (last_more_hit p xs i d l t)))
-      (λ t. last_more_miss q xs i d l (narrows (get_or xs i d) t) ∙ last_through xs d i (omega arith) ∙ ap (λ m. last_of q (take m xs)) (sym (last_more_miss p xs i d l t)))
-      (cases_Bool (p (get_or xs i d))) in
-      rw n goal
+      let by_p = last_take_more p xs i d (omega arith) in
+      let by_q = last_take_more q xs i d (omega arith) in
+      let none = narrows (get_or xs i d) in
+      let ih = last_through xs d i (omega arith) in
+      rw (← add-one i) (⊎_elim (λ (t : p (get_or xs i d) ≡ true). grind (arith, nat_tests)) (λ (t : p (get_or xs i d) ≡ false). grind (arith, nat_tests)) (cases_Bool (p (get_or xs i d))))

@@ -4,6 +4,5 @@ pub mod Sounds
 pub mod Seek
 pub mod Walks
 pub mod Tables
-pub mod Sorting
 pub mod Processing
 pub mod Outgoing

@@ -1,10 +1,13 @@
 -- The walk along a sender's list of links.
-use Rattle.std.proofs.Common.{◌≡◌, ℕ, ◌+◌, ◌-◌, ◌<◌, ◌≤◌, Bool, eqb, List, length, get_or, take, sym, ap, ◌∙◌, arith}
+use Rattle.std.proofs.Common.{◌≡◌, ℕ, ◌+◌, ◌-◌, ◌<◌, ◌≤◌, Bool, cond, eqb, List, length, get_or, take, Some, sym, refl, ap, ◌∙◌, arith}
 use Rattle.std.proofs.lemmas.List.{take_all, get_or_read}
-use Rattle.std.proofs.lemmas.Bool.{and_left, and_right, and_from, eq-eqb, ne_eqb, eqb-true}
+use Rattle.std.proofs.lemmas.Bool.{and_left, eqb-true}
+use Rattle.std.proofs.lemmas.Bool.Decides.{nat_tests}
 use Rattle.graph.specs.declared.records.Link.{Link}
 use Rattle.graph.specs.Net.{no_link, newest_of, joins, linked, Threaded}
-use Rattle.graph.proofs.LastOfs.{last_bound, last_hit, last_through, last_more_hit, last_more_miss}
+use Rattle.graph.specs.Walks.{some_number}
+use Rattle.graph.proofs.Walks.{some_is}
+use Rattle.graph.proofs.LastOfs.{last_bound, last_hit, last_through, last_take_more}
 
 module _ (links : List Link) (s r : ℕ) where
   abbrev by : Link → Bool
@@ -28,45 +31,33 @@ module _ (links : List Link) (s r : ℕ) where
       rw e all
 
   pub seek_start : (n : ℕ) → n ≡ newest_of links s → Seeking n
-  seek_start n e =
-      let whole : take (length links) links ≡ links = take_all (length links) links (omega arith) in
-      down (length links) n (omega arith) (e ∙ ap (λ ls. newest_of ls s) (sym whole)) (ap (λ ls. linked ls s r) (sym whole))
+  seek_start n e = let whole = take_all (length links) links (omega arith) in down (length links) n (omega arith) (rw whole e) (rw whole refl)
 
-  module _ (k : ℕ) (seeking : Seeking (k + 1)) where
-    pub seek_sender : (get_or links k no_link).sender ≡ s
-    seek_sender = eqb-true _ _ (last_hit by links no_link (k + 1) k seeking.bound (sym seeking.newest))
-
-    pub seek_found : (get_or links k no_link).receiver ≡ r → k + 1 ≡ linked links s r
-    seek_found e = sym (seeking.same ∙ last_more_hit pair links k no_link (omega (arith, seeking.bound)) (and_from _ _ (eq-eqb _ _ seek_sender) (eq-eqb _ _ e)))
-
-    pub seek_next : Threaded links → ((get_or links k no_link).receiver ≡ r → ⊥) → Seeking (get_or links k no_link).next
-    seek_next t ne =
-        let h : k < length links = omega (arith, seeking.bound) in
-        down k _ (omega arith) (t k h ∙ ap (λ x. newest_of (take k links) x) seek_sender)
-        (seeking.same ∙ last_more_miss pair links k no_link h (and_right _ _ (ne_eqb _ _ ne)))
-
-    pub seek_less : Threaded links → (get_or links k no_link).next < k + 1
-    seek_less t =
-        let h : k < length links = omega (arith, seeking.bound) in
-        let b = last_bound (λ l. eqb l.sender (get_or links k no_link).sender) links no_link k (omega arith) in
-        omega (arith, b, t k h)
-
-  -- the same at the link that is read there
+  -- at the link that is read there
   module _ (at : ℕ) (nonzero : at ≡ 0 → ⊥) (seeking : Seeking at) (l : Link) (read : l ≡ get_or links (at - 1) l) where
-    back : (at - 1) + 1 ≡ at
+    back : at - 1 + 1 ≡ at
     back = omega arith
 
-    here : Seeking ((at - 1) + 1)
-    here = rw back seeking
+    within : at - 1 < length links
+    within = omega (arith, seeking.bound)
 
-    is : l ≡ get_or links (at - 1) no_link
-    is = get_or_read links (at - 1) l (omega (arith, seeking.bound)) read no_link
+    is : get_or links (at - 1) no_link ≡ l
+    is = sym (get_or_read links (at - 1) l within read no_link)
 
-    pub at_found : l.receiver ≡ r → at ≡ linked links s r
-    at_found e = sym back ∙ seek_found (at - 1) here (ap (λ (x : Link). x.receiver) (sym is) ∙ e)
+    more : linked (take at links) s r ≡ cond (pair l) at (linked (take (at - 1) links) s r)
+    more = rw (back, is) at (last_take_more pair links (at - 1) no_link within)
+
+    sender : l.sender ≡ s
+    sender = eqb-true _ _ (rw is at (last_hit by links no_link at (at - 1) seeking.bound (sym seeking.newest ∙ sym back)))
+
+    next : Threaded links → l.next ≡ newest_of (take (at - 1) links) s
+    next t = rw is at (t (at - 1) within) ∙ ap (newest_of (take (at - 1) links)) sender
+
+    pub at_found : l.receiver ≡ r → Some at ≡ some_number (linked links s r)
+    at_found e = let same = seeking.same in let here = more in let by_s = sender in let found : at ≡ linked links s r = grind (arith, nat_tests) in some_is at nonzero ∙ ap some_number found
 
     pub at_next : Threaded links → (l.receiver ≡ r → ⊥) → Seeking l.next
-    at_next t ne = rw is (seek_next (at - 1) here t (λ e. ne (ap (λ (x : Link). x.receiver) is ∙ e)))
+    at_next t ne = let here = more in down (at - 1) l.next (omega arith) (next t) (seeking.same ∙ grind (arith, nat_tests))
 
     pub at_less : Threaded links → l.next < at
-    at_less t = let e : l.next ≡ (get_or links (at - 1) no_link).next = ap (λ (x : Link). x.next) is in omega (arith, e, seek_less (at - 1) here t)
+    at_less t = omega (arith, next t, last_bound by links no_link (at - 1) (omega arith))

@@ -1,7 +1,8 @@
 -- What one task or one link more leaves true.
-use Rattle.std.proofs.Common.{◌≡◌, ℕ, ◌+◌, ◌<◌, ◌≤◌, true, false, cond, eqb, List, [], ◌∷◌, ◌++◌, length, get_or, take, set, sym, refl, ap, ◌∙◌, subst, ⊎_elim, arith, length-set}
+use Rattle.std.proofs.Common.{◌≡◌, ℕ, ◌+◌, ◌<◌, ◌≤◌, cond, eqb, List, [], ◌∷◌, ◌++◌, length, get_or, take, set, sym, refl, ◌∙◌, subst, ⊎_elim, arith, length-set}
 use Rattle.std.proofs.lemmas.List.{length_push, get_or_push, get_or_append_left, take-append-le, take_at, get_or-set_same, get_or-set_other}
-use Rattle.std.proofs.lemmas.Bool.{cases_lt, cases_eq, cond-true, cond-false, eq-eqb, ne_eqb}
+use Rattle.std.proofs.lemmas.Bool.{cases_lt, cases_eq, ne_eqb}
+use Rattle.std.proofs.lemmas.Bool.Decides.{nat_tests}
 use Rattle.graph.specs.declared.records.Link.{Link}
 use Rattle.graph.specs.declared.records.Task.{Task}
 use Rattle.graph.specs.Net.{no_task, no_link, newest_of, linked, Joined, Single, Timed, Threaded, Headed, Sound}
@@ -69,26 +70,17 @@ single_link links l none s =
 -- the sender's newest link is the new one
 pub headed_link : (tasks : List Task) (links : List Link) (l : Link) (k : ℕ) (t : Task) → k < length tasks → l.sender ≡ k + 1 → t.newest ≡ length links + 1 → Headed tasks links → Headed (set tasks k t) (links ++ l ∷ [])
 headed_link tasks links l k t within s e h i lt =
-    let ln : length (set tasks k t) ≡ length tasks = length-set tasks k t in
-    ⊎_elim
-    (λ (same : i ≡ k).
-    let yes : eqb l.sender (i + 1) ≡ true = eq-eqb _ _ (omega arith) in
-    let read : get_or (set tasks k t) i no_task ≡ t = rw same (get_or-set_same tasks k t no_task within) in
-    ap (λ (x : Task). x.newest) read ∙ e ∙ sym (newest_push links l (i + 1) ∙ cond-true _ _ _ yes))
-    (λ (other : i ≡ k → ⊥).
-    let no : eqb l.sender (i + 1) ≡ false = ne_eqb _ _ (λ q. other (omega arith)) in
-    ap (λ (x : Task). x.newest) (get_or-set_other tasks k i t no_task other) ∙ h i (omega arith) ∙ sym (newest_push links l (i + 1) ∙ cond-false _ _ _ no))
-    (cases_eq i k)
+    let new = newest_push links l (i + 1) in
+    let old = h i in
+    let long = length-set tasks k t in
+    grind (arith, nat_tests, get_or-set_same, get_or-set_other, cases_eq i k)
 
 timed_set : (tasks : List Task) (k : ℕ) (t : Task) → k < length tasks → t.time ≡ (get_or tasks k no_task).time → Timed tasks → Timed (set tasks k t)
 timed_set tasks k t within e h i lt =
-    let ln : length (set tasks k t) ≡ length tasks = length-set tasks k t in
-    ⊎_elim
-    (λ (same : i ≡ k). let P : Task → Type 0 = λ x. (1 ≤ x.time) × (x.time ≤ 1000000) in
-    let old = h k within in
-    rw (same, get_or-set_same tasks k t no_task within) (omega (arith, old.0, old.1, e)))
-    (λ (other : i ≡ k → ⊥). rw (get_or-set_other tasks k i t no_task other) (h i (omega arith)))
-    (cases_eq i k)
+    let long = length-set tasks k t in
+    let old = h i in
+    let here = h k within in
+    (grind (arith, get_or-set_same, get_or-set_other, cases_eq i k), grind (arith, get_or-set_same, get_or-set_other, cases_eq i k))
 
 pub sound_link : (tasks : List Task) (links : List Link) (l : Link) (k : ℕ) (t : Task) → k < length tasks → l.sender ≡ k + 1
     → t.newest ≡ length links + 1 → t.time ≡ (get_or tasks k no_task).time → l.next ≡ newest_of links l.sender

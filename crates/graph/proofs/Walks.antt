@@ -1,30 +1,29 @@
 -- Which tasks reach which is what walks say.
-use Rattle.std.proofs.Common.{◌≡◌, ℕ, zero, suc, ◌+◌, ◌-◌, ◌<◌, ◌≤◌, Bool, true, false, cond, not, eqb, List, [], ◌∷◌, ◌++◌, length, get_or, take, sym, refl, ap, ◌∙◌, subst, ⊎_elim, arith}
+use Rattle.std.proofs.Common.{◌≡◌, ℕ, zero, suc, ◌+◌, ◌-◌, ◌<◌, ◌≤◌, Bool, true, false, not, eqb, List, [], ◌∷◌, ◌++◌, length, get_or, Some, None, sym, refl, subst, ⊎_elim, arith}
 use Rattle.std.proofs.lemmas.List.{take_all}
-use Rattle.std.proofs.lemmas.Bool.{both_ways, cases_Bool, cases_eq, and_parts, and_from, or_cases, or_left, or_right, not-true, not_from_false, eq-eqb, ne_eqb, eqb-true, eqb-false, cond-true, cond-false}
+use Rattle.std.proofs.lemmas.Bool.{both_ways, cases_eq, cases_lt, and_parts, or_cases, or_left, ne_eqb, cond-false}
+use Rattle.std.proofs.lemmas.Bool.Decides.{nat_tests}
 use Rattle.graph.specs.declared.records.Link.{Link}
-use Rattle.graph.specs.LastOf.{last_of}
 use Rattle.graph.specs.Net.{Net, no_link, linked, joins, Joined}
-use Rattle.graph.specs.Walks.{Linked, Walk, through, reaches, least, circle, ReachesByWalks, NamesACircle}
+use Rattle.graph.specs.Walks.{Linked, Walk, through, reaches, least, circle, some_number, ReachesByWalks, NamesACircle}
 use Rattle.graph.proofs.LastOfs.{last_bound, last_hit, last_zero}
+
+pub some_is : (n : ℕ) → (n ≡ 0 → ⊥) → Some n ≡ some_number n
+some_is n ne = sym (cond-false (eqb n 0) None (Some n) (ne_eqb n 0 ne))
 
 -- the link that is found is one
 linked_is : (links : List Link) (a b : ℕ) → not (eqb (linked links a b) 0) ≡ true → Linked links a b
 linked_is links a b e =
     let n = linked links a b in
-    let whole : take (length links) links ≡ links = take_all (length links) links (omega arith) in
-    let ne : n ≡ 0 → ⊥ = eqb-false n 0 (not-true _ e) in
-    let bound : n ≤ length links = subst (λ (xs : List Link). last_of (joins a b) xs ≤ length links) whole (last_bound (joins a b) links no_link (length links) (omega arith)) in
-    let back : (n - 1) + 1 ≡ n = omega arith in
-    let hit = last_hit (joins a b) links no_link (length links) (n - 1) (omega arith) (ap (last_of (joins a b)) whole ∙ sym back) in
-    let p = and_parts _ _ hit in
-    (n - 1, omega arith, eqb-true _ _ p.0, eqb-true _ _ p.1)
+    let whole = take_all (length links) links (omega arith) in
+    let bound : n ≤ length links = rw whole at (last_bound (joins a b) links no_link (length links) (omega arith)) in
+    let back : n ≡ (n - 1) + 1 = grind (arith, nat_tests) in
+    let hit = last_hit (joins a b) links no_link (length links) (n - 1) (omega arith) (rw whole back) in
+    (n - 1, omega arith, grind (arith, nat_tests), grind (arith, nat_tests))
 
 -- a link is found
 is_linked : (links : List Link) (a b : ℕ) → Linked links a b → not (eqb (linked links a b) 0) ≡ true
-is_linked links a b l =
-    not_from_false _ (ne_eqb _ _ (λ z.
-    both_ways _ (last_zero (joins a b) no_link links z l.0 l.1) (and_from _ _ (eq-eqb _ _ l.2) (eq-eqb _ _ l.3))))
+is_linked links a b l = let none = λ (e : linked links a b ≡ 0). last_zero (joins a b) no_link links e l.0 l.1 in grind (arith, nat_tests)
 
 walk_on : (links : List Link) (a c b : ℕ) (via on : List ℕ) → Walk links a via c → Walk links c on b → Walk links a (via ++ c ∷ on) b
 walk_on links a c b [] on v w = (v, w)
@@ -41,43 +40,22 @@ module _ (links : List Link) where
       (v.0 ++ suc k ∷ w.0, walk_on links a (suc k) b v.0 w.0 v.1 w.1))
       (or_cases _ _ e)
 
-  pub through_more : (k a b : ℕ) → through links k a b ≡ true → through links (suc k) a b ≡ true
-  through_more k a b e = or_left _ _ e
-
   through_direct : (k a b : ℕ) → Linked links a b → through links k a b ≡ true
   through_direct zero a b l = is_linked links a b l
-  through_direct (suc k) a b l = through_more k a b (through_direct k a b l)
-
-  -- over k + 1, when both halves are known
-  over : (k a b : ℕ) → through links k a (suc k) ≡ true → through links k (suc k) b ≡ true → through links (suc k) a b ≡ true
-  over k a b p q = or_right _ _ (and_from _ _ p q)
-
-  -- to or from k + 1 nothing is gained by going over k + 1
-  to_next : (k a : ℕ) → through links (suc k) a (suc k) ≡ true → through links k a (suc k) ≡ true
-  to_next k a e = ⊎_elim (λ p. p) (λ f. (and_parts _ _ f).0) (or_cases _ _ e)
-
-  from_next : (k b : ℕ) → through links (suc k) (suc k) b ≡ true → through links k (suc k) b ≡ true
-  from_next k b e = ⊎_elim (λ p. p) (λ f. (and_parts _ _ f).1) (or_cases _ _ e)
+  through_direct (suc k) a b l = or_left _ _ (through_direct k a b l)
 
   -- one way after another, where they meet in a task up to k
   pub through_join : (k a c b : ℕ) → 1 ≤ c → c ≤ k → through links k a c ≡ true → through links k c b ≡ true → through links k a b ≡ true
   through_join zero a c b lo hi p q = absurd (omega arith)
   through_join (suc k) a c b lo hi p q =
       ⊎_elim
-      (λ (e : c ≡ suc k). over k a b (to_next k a (subst (λ x. through links (suc k) a x ≡ true) e p)) (from_next k b (subst (λ x. through links (suc k) x b ≡ true) e q)))
+      (λ (e : c ≡ suc k). let to = rw e at p in let from = rw e at q in grind (arith, nat_tests))
       (λ (ne : c ≡ suc k → ⊥).
       let le : c ≤ k = omega arith in
-      ⊎_elim
-      (λ p'. ⊎_elim
-      (λ q'. through_more k a b (through_join k a c b lo le p' q'))
-      (λ q'. let h = and_parts _ _ q' in over k a b (through_join k a c (suc k) lo le p' h.0) h.1)
-      (or_cases _ _ q))
-      (λ p'. let g = and_parts _ _ p' in
-      ⊎_elim
-      (λ q'. over k a b g.0 (through_join k (suc k) c b lo le g.1 q'))
-      (λ q'. let h = and_parts _ _ q' in over k a b g.0 h.1)
-      (or_cases _ _ q))
-      (or_cases _ _ p))
+      let straight = through_join k a c b lo le in
+      let before = through_join k a c (suc k) lo le in
+      let after = through_join k (suc k) c b lo le in
+      grind (arith, nat_tests))
       (cases_eq c (suc k))
 
   module _ (n : ℕ) (joined : Joined n links) where
@@ -109,53 +87,34 @@ module _ (p : ℕ → Bool) where
   least_none zero e t lo hi = absurd (omega arith)
   least_none (suc n) e t lo hi =
       ⊎_elim
-      (λ (z : least p n ≡ 0).
-      let f : cond (p (suc n)) (suc n) 0 ≡ 0 = sym (cond-true _ _ (least p n) (eq-eqb _ _ z)) ∙ e in
-      ⊎_elim
-      (λ (same : t ≡ suc n). ⊎_elim (λ y. absurd (let g : suc n ≡ 0 = sym (cond-true _ _ _ y) ∙ f in omega arith)) (λ y. rw same y) (cases_Bool (p (suc n))))
-      (λ (ne : t ≡ suc n → ⊥). least_none n z t lo (omega arith))
-      (cases_eq t (suc n)))
-      (λ (nz : least p n ≡ 0 → ⊥). absurd (nz (sym (cond-false _ (cond (p (suc n)) (suc n) 0) _ (ne_eqb _ _ nz)) ∙ e)))
-      (cases_eq (least p n) 0)
+      (λ (same : t ≡ suc n). rw same (grind (arith, nat_tests)))
+      (λ (ne : t ≡ suc n → ⊥). least_none n (grind (arith, nat_tests)) t lo (omega arith))
+      (cases_eq t (suc n))
 
   pub least_bound : (n : ℕ) → least p n ≤ n
   least_bound zero = omega arith
-  least_bound (suc n) =
-      ⊎_elim
-      (λ (z : least p n ≡ 0). ⊎_elim
-      (λ y. let g : least p (suc n) ≡ suc n = cond-true _ _ (least p n) (eq-eqb _ _ z) ∙ cond-true _ _ _ y in omega arith)
-      (λ y. let g : least p (suc n) ≡ 0 = cond-true _ _ (least p n) (eq-eqb _ _ z) ∙ cond-false _ _ _ y in omega arith)
-      (cases_Bool (p (suc n))))
-      (λ (nz : least p n ≡ 0 → ⊥). let g : least p (suc n) ≡ least p n = cond-false _ (cond (p (suc n)) (suc n) 0) _ (ne_eqb _ _ nz) in omega (arith, least_bound n))
-      (cases_eq (least p n) 0)
+  least_bound (suc n) = let ih = least_bound n in grind (arith, nat_tests)
 
   pub least_more : (n : ℕ) → least p n ≡ 0 → p (suc n) ≡ false → least p (suc n) ≡ 0
-  least_more n z y = cond-true _ _ (least p n) (eq-eqb _ _ z) ∙ cond-false _ _ _ y
+  least_more n z y = grind (arith, nat_tests)
 
   pub least_here : (n : ℕ) → least p n ≡ 0 → p (suc n) ≡ true → least p (suc n) ≡ suc n
-  least_here n z y = cond-true _ _ (least p n) (eq-eqb _ _ z) ∙ cond-true _ _ _ y
+  least_here n z y = grind (arith, nat_tests)
 
   pub least_stays : (n : ℕ) → (least p n ≡ 0 → ⊥) → least p (suc n) ≡ least p n
-  least_stays n nz = cond-false _ (cond (p (suc n)) (suc n) 0) _ (ne_eqb _ _ nz)
+  least_stays n nz = grind (arith, nat_tests)
 
   pub least_holds : (n : ℕ) → (least p n ≡ 0 → ⊥) → p (least p n) ≡ true
   least_holds zero nz = absurd (nz refl)
-  least_holds (suc n) nz =
-      ⊎_elim
-      (λ (z : least p n ≡ 0). ⊎_elim
-      (λ y. rw (least_here n z y) y)
-      (λ y. absurd (nz (least_more n z y)))
-      (cases_Bool (p (suc n))))
-      (λ (k : least p n ≡ 0 → ⊥). rw (least_stays n k) (least_holds n k))
-      (cases_eq (least p n) 0)
+  least_holds (suc n) nz = let ih : (least p n ≡ 0 → ⊥) → p (least p n) ≡ true = least_holds n in grind (arith, nat_tests)
 
   pub least_first : (n t : ℕ) → 1 ≤ t → t < least p n → p t ≡ false
   least_first zero t lo h = absurd (omega arith)
   least_first (suc n) t lo h =
       ⊎_elim
-      (λ (z : least p n ≡ 0). least_none n z t lo (omega (arith, least_bound (suc n))))
-      (λ (k : least p n ≡ 0 → ⊥). least_first n t lo (rw (least_stays n k) at h))
-      (cases_eq (least p n) 0)
+      (λ (l : t < least p n). least_first n t lo l)
+      (λ (l : least p n ≤ t). least_none n (grind (arith, nat_tests, least_bound n)) t lo (grind (arith, nat_tests, least_bound n)))
+      (cases_lt t (least p n))
 
 pub names_a_circle : (net : Net) → Joined (length net.tasks) net.links → NamesACircle net
 names_a_circle net joined =

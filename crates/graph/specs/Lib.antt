@@ -5,5 +5,4 @@ pub mod Calls
 pub mod Of
 pub mod Walks
 pub mod Tables
-pub mod Sorting
 pub mod Outgoing

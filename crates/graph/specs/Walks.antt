@@ -1,5 +1,5 @@
 -- Walks over links, which tasks reach which, circles, and the order in which tasks can be processed.
-use Rattle.std.specs.Prelude.{◌≡◌, ℕ, zero, suc, ◌+◌, ◌<◌, ◌≤◌, Bool, true, cond, not, ◌&&◌, ◌||◌, List, [], ◌∷◌, length, ◌==◌, ◌≢◌, nat_eq, slice_index, slice_index_or}
+use Rattle.std.specs.Prelude.{◌≡◌, ℕ, zero, suc, ◌+◌, ◌<◌, ◌≤◌, Bool, true, cond, not, ◌&&◌, ◌||◌, Some, None, Option, List, [], ◌∷◌, length, ◌==◌, ◌≢◌, nat_eq, slice_index, slice_index_or}
 use Rattle.graph.specs.declared.records.Link.{Link}
 use Rattle.graph.specs.declared.records.Refusal.{Refusal}
 use Rattle.graph.specs.declared.records.Refusal.TheVariants.{NoTask, Circle}
@@ -28,6 +28,10 @@ reaches net a b = through net.links (length net.tasks) a b
 abbrev pub least : (ℕ → Bool) → ℕ → ℕ
 least p zero = 0
 least p (suc n) = cond (least p n == 0) (cond (p (suc n)) (suc n) 0) (least p n)
+
+-- a number, or none where it is 0
+abbrev pub some_number : ℕ → Option ℕ
+some_number n = cond (n == 0) None (Some n)
 
 -- the least task that reaches itself, or 0
 abbrev pub circle : Net → ℕ

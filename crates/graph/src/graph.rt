@@ -1,4 +1,5 @@
 ghost use Rattle.std.specs.Prelude.{◌≤◌, length, vec_len, vec_capacity};
+ghost use Rattle.graph.specs.declared.limits.TheConstants.{MAX_TASKS, MAX_LINKS};
 ghost use Rattle.graph.specs.Net.{Timed, Joined, Unlooped, Sized, Single, Threaded, Headed};
 
 use crate::records::{Link, Task};
@@ -10,10 +11,10 @@ pub mod calls;
 pub struct Graph {
     tasks: Vec<Task>,
     links: Vec<Link>,
-    ghost task_room: { 256 ≤ vec_capacity tasks },
-    ghost link_room: { 1024 ≤ vec_capacity links },
-    ghost task_limit: { vec_len tasks ≤ 256 },
-    ghost link_limit: { vec_len links ≤ 1024 },
+    ghost task_room: { MAX_TASKS ≤ vec_capacity tasks },
+    ghost link_room: { MAX_LINKS ≤ vec_capacity links },
+    ghost task_limit: { vec_len tasks ≤ MAX_TASKS },
+    ghost link_limit: { vec_len links ≤ MAX_LINKS },
     ghost timed: { Timed tasks.items },
     ghost joined: { Joined (length tasks.items) links.items },
     ghost unlooped: { Unlooped links.items },

@@ -1,4 +1,4 @@
-// How large a job may be.
+// How large a job may be. What is promised in specs/ has these numbers of its own, so a wrong one here is refused.
 
 pub const MAX_TASKS: usize = 256;
 

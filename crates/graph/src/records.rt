@@ -1,4 +1,5 @@
 // The plain records of a graph. This file has no clause, so that the specs may name its types.
+// Where there is no link the number is 0 and no Option, since 0 is the word for none in the words of a job.
 
 // A task: its time, and the number of its newest outgoing link, 0 where it has none.
 #[derive(Clone, Copy, PartialEq, Eq, Debug)]

@@ -3,14 +3,12 @@ ghost use Rattle.std.specs.Prelude.{◌≡◌, ◌+◌, ◌<◌, ◌≤◌, true
 ghost use Rattle.graph.specs.Net.{empty, linked, Sound};
 ghost use Rattle.graph.specs.Outgoing.{ListsAreExact};
 ghost use Rattle.graph.specs.Calls.{is_task, is_time, with_link, add_step, link_step, first_of};
-ghost use Rattle.graph.specs.Tables.{Shows};
-ghost use Rattle.graph.specs.Walks.{through, circle, close_rows, Processes, ReachesByWalks, NamesACircle};
+ghost use Rattle.graph.specs.Walks.{close_rows, Processes, ReachesByWalks, NamesACircle, some_number};
 ghost use Rattle.graph.specs.Of.{net_of};
 
 use crate::graph::Graph;
 use crate::limits::{MAX_LINKS, MAX_SIZE, MAX_TASKS, MAX_TIME};
-use crate::order::{counts_of, sorted};
-use crate::reach::{least_on_circle, reach_table};
+use crate::reach::ReachTable;
 use crate::records::{Link, Refusal, Task};
 use std::alloc::{AllocError, Global};
 
@@ -18,7 +16,7 @@ use std::alloc::{AllocError, Global};
 pub fn time_in_range(time: u32) -> bool
     ensures { result ≡ is_time time }
 {
-    time >= 1 && time <= MAX_TIME
+    (1..=MAX_TIME).contains(&time)
 }
 
 impl Link {
@@ -32,12 +30,6 @@ impl Link {
             size,
             next,
         }
-    }
-
-    fn goes_to(&self, task: u32) -> bool
-        ensures { result ≡ (self.now.receiver == task) }
-    {
-        self.receiver == task
     }
 }
 
@@ -78,7 +70,7 @@ impl Graph {
     pub fn has_task(&self, task: u32) -> bool
         ensures { result ≡ is_task (net_of self.now) task }
     {
-        task >= 1 && task as usize <= self.tasks.len()
+        (1..=self.tasks.len()).contains(&(task as usize))
     }
 
     // Takes one more task in, and answers its number.
@@ -95,21 +87,21 @@ impl Graph {
         Ok(self.tasks.len() as u32)
     }
 
-    // The number of the link of a pair, found along the sender's list, or 0.
-    fn find_link(&self, from: u32, to: u32) -> u32
+    // The number of the link of a pair, found along the sender's list, which ends at 0 as in the words of a job.
+    fn find_link(&self, from: u32, to: u32) -> Option<u32>
         requires some { 1 ≤ from }
         requires known { from ≤ vec_len self.now.tasks }
-        ensures { result ≡ linked self.now.links.items from to }
+        ensures { result ≡ some_number (linked self.now.links.items from to) }
     {
         let mut at = self.tasks[from as usize - 1].newest;
         while at != 0 {
             let link = self.links[at as usize - 1];
-            if link.goes_to(to) {
-                return at;
+            if link.receiver == to {
+                return Some(at);
             }
             at = link.next;
         }
-        0
+        None
     }
 
     // Puts a link that is allowed at the front of its sender's list.
@@ -117,9 +109,9 @@ impl Graph {
         requires sender { is_task (net_of self.old) from ≡ true }
         requires receiver { is_task (net_of self.old) to ≡ true }
         requires unlooped { from ≢ to }
-        requires sized { size ≤ 1000000 }
+        requires sized { size ≤ MAX_SIZE }
         requires single { linked self.old.links.items from to ≡ 0 }
-        requires room { vec_len self.old.links < 1024 }
+        requires room { vec_len self.old.links < MAX_LINKS }
         ensures value { result ≡ length self.old.links.items + 1 }
         ensures after { net_of self.new ≡ with_link (net_of self.old) from to size }
     {
@@ -147,8 +139,7 @@ impl Graph {
         if size > MAX_SIZE {
             return Err(Refusal::SizeTooLarge);
         }
-        let older = self.find_link(from, to);
-        if older != 0 {
+        if let Some(older) = self.find_link(from, to) {
             return Err(Refusal::AlreadyLinked(older));
         }
         if self.links.len() >= MAX_LINKS {
@@ -172,45 +163,27 @@ impl Graph {
     {}
 
     // The table of what each task reaches.
-    fn reach(&self) -> [bool; 65536]
-        ensures { Shows (length (net_of self.now).tasks) result (through (net_of self.now).links (length (net_of self.now).tasks)) }
+    fn reach(&self) -> ReachTable<'_>
+        ensures links { result.links.now ≡ (net_of self.now).links }
+        ensures tasks { result.tasks ≡ length (net_of self.now).tasks }
     {
-        reach_table(self.links.as_slice(), self.tasks.len())
-    }
-
-    // The least task on a circle, or 0.
-    fn circle_in(&self, table: &[bool; 65536]) -> u32
-        requires { Shows (length (net_of self.now).tasks) table.now (through (net_of self.now).links (length (net_of self.now).tasks)) }
-        ensures { result ≡ circle (net_of self.now) }
-    {
-        least_on_circle(table, self.tasks.len())
-    }
-
-    // The tasks in an order in which they can be processed, where there is no circle.
-    fn order_by(&self, table: &[bool; 65536]) -> [u32; 256]
-        requires shows { Shows (length (net_of self.now).tasks) table.now (through (net_of self.now).links (length (net_of self.now).tasks)) }
-        requires none { circle (net_of self.now) ≡ 0 }
-        ensures { Processes (length (net_of self.now).tasks) (net_of self.now).links (take (length (net_of self.now).tasks) result) }
-    {
-        let n = self.tasks.len();
-        sorted(&counts_of(table, n), n)
+        ReachTable::new(self.links.as_slice(), self.tasks.len())
     }
 
     // The order in which the tasks can be processed, in the first places of the answer.
-    pub fn processing_order(&self) -> Result<[u32; 256], Refusal>
+    pub fn processing_order(&self) -> Result<[u32; MAX_TASKS], Refusal>
         ensures answer { MatchResult result (λ order. (first_of (close_rows (net_of self.now)) ≡ None) × Processes (length (net_of self.now).tasks) (net_of self.now).links (take (length (net_of self.now).tasks) order)) (λ why. first_of (close_rows (net_of self.now)) ≡ Some why) }
         ensures walks { ReachesByWalks (net_of self.now) }
         ensures circles { NamesACircle (net_of self.now) }
     {
         self.circles_named();
-        if self.tasks.len() == 0 {
+        if self.tasks.is_empty() {
             return Err(Refusal::NoTask);
         }
         let table = self.reach();
-        let on = self.circle_in(&table);
-        if on != 0 {
+        if let Some(on) = table.least_on_circle() {
             return Err(Refusal::Circle(on));
         }
-        Ok(self.order_by(&table))
+        Ok(table.order())
     }
 }

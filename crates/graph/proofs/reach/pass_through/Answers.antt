@@ -1,20 +1,19 @@
-use Rattle.std.proofs.Common.{◌≡◌, ℕ, ◌+◌, ◌<◌, Bool, List, sym, ◌∙◌, subst, arith}
-use Rattle.graph.specs.Tables.{at}
-use Rattle.graph.proofs.Tables.{passed, pass_taken, pass_left, pass_none, pass_all}
+use Rattle.std.proofs.Common.{ℕ, ◌+◌, Bool, false, List, get_or, sym, ap, subst, arith}
+use Rattle.graph.proofs.Tables.{Passing, pass_more}
 use Rattle.graph.proofs.reach.pass_through.Goals as goal
-use Rattle.graph.proofs.reach.pass_through.Goals.{then-reaches, else-reaches}
+use Rattle.graph.proofs.reach.pass_through.Goals.{then-row-via, else-row-via}
 
-pub loop-i-init : goal.loop-i-init
-loop-i-init c = λ a b _ _. pass_none c.args.table.now c.args.via a b
-
-pub loop-i-preserved : goal.loop-i-preserved
-loop-i-preserved c =
-    let E = c.args.table.now in
-    let P : List Bool → Type 0 = λ T. (a b : ℕ) → a < c.args.n → b < c.args.n → at T a b ≡ passed E c.args.via (c.loop-i.i + 1) a b in
-    elim c.if-reaches.branch [
-      | then-reaches w ↦ subst P (sym w.table-is) (pass_taken E c.loop-i.table c.args.via c.args.n c.loop-i.i c.requires.known c.requires.few c.loop-i-test.true c.loop-i.invariant _ (sym c.reaches.ensures ∙ w.if-reaches.true) w.absorb.ensures)
-      | else-reaches w ↦ subst P (sym w.table-is) (pass_left E c.loop-i.table c.args.via c.args.n c.loop-i.i c.requires.known c.requires.few c.loop-i-test.true c.loop-i.invariant (sym c.reaches.ensures ∙ w.if-reaches.false))
+pub loop-row-preserved : goal.loop-row-preserved
+loop-row-preserved c =
+    let E = c.args.rows.now in
+    let i = c.loop-row.row-index in
+    let P : List (List Bool) → Type 0 = λ T. Passing E T c.args.via (i + 1) in
+    let same = λ (b : ℕ). ap (λ r. get_or r b false) (c.loop-row.invariant.left i (omega arith)) in
+    let more = λ (row : List Bool). pass_more E c.loop-row.row-items c.args.via i row c.loop-row-test.true c.loop-row.invariant in
+    elim c.if-row-via.branch [
+      | then-row-via w ↦ subst P (sym w.row-items-is) (more _ (λ b l. let held = same c.args.via in let here = same b in let new = w.unite.ensures b l in let test = w.if-row-via.true in grind arith))
+      | else-row-via w ↦ subst P (sym w.row-items-is) (more _ (λ b l. let held = same c.args.via in let here = same b in let test = w.if-row-via.false in grind arith))
     ]
 
 pub returns : goal.returns
-returns c = λ a b la lb. c.loop-i.invariant a b la lb ∙ pass_all c.args.table.now c.args.via c.loop-i.i a b (omega arith)
+returns c = λ a b la lb. c.loop-row.invariant.done a b (omega arith) lb

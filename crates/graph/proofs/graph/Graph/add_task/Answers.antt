@@ -10,16 +10,5 @@ invariant_of-self c =
     let g = c.args.self.now in
     let P : List Task → Type 0 = λ ts. Sound ts (vec_items g.links) in
     let time = timely c.args.time (sym c.time_in_range.ensures ∙ c.if-not-time_in_range.false) in
-    let s = subst P (sym c.push_reserved.ensures.items) (sound_task (vec_items g.tasks) (vec_items g.links) _ time refl (graph_sound g)) in record {
-      task_room = search rules;
-      link_room = search rules;
-      task_limit = search rules;
-      link_limit = search rules;
-      timed = s.timed;
-      joined = s.joined;
-      unlooped = s.unlooped;
-      sized = s.sized;
-      single = s.single;
-      threaded = s.threaded;
-      headed = s.headed;
-    }
+    let s = subst P (sym c.push_reserved.ensures.items) (sound_task (vec_items g.tasks) (vec_items g.links) _ time refl (graph_sound g)) in
+    search rules

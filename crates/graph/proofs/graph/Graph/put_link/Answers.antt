@@ -26,16 +26,5 @@ invariant_of-self c =
     let l : Link = record { sender = c.args.from; receiver = c.args.to; size = c.args.size; next = c.index.result.now.newest } in
     let fits : Fits (length ts) l = record { joined = (a.0, a.1, b.0, b.1); unlooped = c.requires.unlooped; sized = c.requires.sized } in
     let Q : Link → Type 0 = λ x. P (ls ++ (x ∷ [])) in
-    let s = subst P (sym c.push_reserved.ensures.items) (subst Q (sym c.new.ensures) (sound_link ts ls l k t h (sym same) n time next fits c.requires.single (graph_sound g))) in record {
-      task_room = search rules;
-      link_room = search rules;
-      task_limit = search rules;
-      link_limit = search rules;
-      timed = s.timed;
-      joined = s.joined;
-      unlooped = s.unlooped;
-      sized = s.sized;
-      single = s.single;
-      threaded = s.threaded;
-      headed = s.headed;
-    }
+    let s = subst P (sym c.push_reserved.ensures.items) (subst Q (sym c.new.ensures) (sound_link ts ls l k t h (sym same) n time next fits c.requires.single (graph_sound g))) in
+    search rules

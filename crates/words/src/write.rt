@@ -6,7 +6,7 @@ ghost use Rattle.graph.specs.Of.{net_of};
 ghost use Rattle.words.specs.Words.{task_words, link_words, write_answer, written};
 ghost use Rattle.words.specs.RoundTrips.{ReadsBack};
 
-use crate::layout::EDITION;
+use crate::layout::{EDITION, word_count};
 use crate::round_trips::words_read_back;
 use graph::graph::Graph;
 use graph::records::{Link, Refusal, Task};
@@ -63,7 +63,7 @@ pub fn write_words(graph: &Graph, out: &mut [u32]) -> Result<u32, Refusal>
     words_read_back(graph);
     let tasks = graph.tasks();
     let links = graph.links();
-    let needed = 3 + 2 * tasks.len() + 3 * links.len();
+    let needed = word_count(tasks.len(), links.len());
     if out.len() < needed {
         return Err(Refusal::OutputTooShort(needed as u32));
     }

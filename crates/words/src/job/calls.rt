@@ -4,7 +4,7 @@ ghost use Rattle.graph.specs.Calls.{first_of};
 ghost use Rattle.words.specs.Reading.{word, task_count, link_count, time_place, newest_place, receiver_place, size_place, next_place, form_rows};
 
 use crate::job::JobWords;
-use crate::layout::EDITION;
+use crate::layout::{EDITION, word_count};
 use crate::refusal::ReadRefusal;
 use graph::limits::{MAX_LINKS, MAX_TASKS};
 
@@ -43,7 +43,7 @@ impl<'a> JobWords<'a> {
         if links > MAX_LINKS {
             return Err(ReadRefusal::CountTooLarge(2));
         }
-        if words.len() != 3 + 2 * tasks + 3 * links {
+        if words.len() != word_count(tasks, links) {
             return Err(ReadRefusal::WrongLength(words.len()));
         }
         Ok(JobWords { words })

@@ -1,5 +1,5 @@
 -- Counts of what words name.
-use Rattle.std.proofs.Common.{◌≡◌, ℕ, zero, suc, ◌+◌, ◌<◌, ◌≤◌, ◌⊎◌, Bool, cond, eqb, List, length, get_or, set, sym, refl, ap, ◌∙◌, subst, ⊎_elim, arith}
+use Rattle.std.proofs.Common.{◌≡◌, ℕ, ◌+◌, ◌<◌, ◌≤◌, ◌⊎◌, eqb, List, length, get_or, set, sym, ap, ◌∙◌, subst, ⊎_elim, arith}
 use Rattle.std.proofs.lemmas.List.{get_or-set_same, get_or-set_other}
 use Rattle.std.proofs.lemmas.Bool.{cases_eq, eq-eqb, ne_eqb}
 use Rattle.graph.specs.Tables.{count_below}
@@ -61,7 +61,3 @@ module _ (f : ℕ → ℕ) (E : List ℕ) where
       (λ (h : (m < 1025) × (T' ≡ set T m (get_or T m 0 + 1))). subst (λ X. Counted X (i + 1)) (sym h.1) (counted_hit T i m e h.0 c))
       (λ (h : (1025 ≤ m) × (T' ≡ T)). subst (λ X. Counted X (i + 1)) (sym h.1) (counted_miss T i m e h.0 c))
       step
-
-pub count_same : (p q : ℕ → Bool) (n : ℕ) → ((k : ℕ) → k < n → p k ≡ q k) → count_below p n ≡ count_below q n
-count_same p q zero h = refl
-count_same p q (suc n) h = ap (λ b. cond b 1 0 + count_below p n) (h n (omega arith)) ∙ ap (λ m. cond (q n) 1 0 + m) (count_same p q n (λ k l. h k (omega arith)))

@@ -1,5 +1,5 @@
 -- Words that are written one after another.
-use Rattle.std.proofs.Common.{◌≡◌, ℕ, ◌+◌, ◌*◌, ◌<◌, ◌≤◌, List, [], ◌∷◌, ◌++◌, length, get_or, take, drop, set, Ok, sym, refl, ap, ◌∙◌, ap₂, arith}
+use Rattle.std.proofs.Common.{◌≡◌, ℕ, ◌+◌, ◌*◌, ◌<◌, ◌≤◌, List, [], ◌∷◌, ◌++◌, length, get_or, take, drop, sym, refl, ap, ◌∙◌, ap₂, arith}
 use lib.Seq.{paste}
 use Rattle.std.specs.List.{flat_map}
 use Rattle.std.proofs.lemmas.List.{length-append, length-take-le, take_more, append-nil}
@@ -7,12 +7,12 @@ use Rattle.std.proofs.lemmas.Grind.{flat_map-append}
 use Rattle.std.proofs.lemmas.Bool.{cond-true, le-leb}
 use borrow.Rule.Slice.PartMut.{put_mid}
 use Rattle.std.proofs.lemmas.Slice.{put_mid-paste}
-use Rattle.std.proofs.lemmas.List.Edits.{paste_more, paste_none, paste_all, paste-paste}
+use Rattle.std.proofs.lemmas.List.Edits.{paste_all, paste-paste}
 use Rattle.graph.specs.declared.records.Link.{Link}
 use Rattle.graph.specs.declared.records.Task.{Task}
-use Rattle.graph.specs.Net.{Net, no_task, no_link}
-use Rattle.words.specs.Words.{task_words, link_words, needed, write_answer, written}
-use Rattle.words.proofs.Pieces.{length_pieces, getD_pieces}
+use Rattle.graph.specs.Net.{Net}
+use Rattle.words.specs.Words.{task_words, link_words, needed, written}
+use Rattle.words.proofs.Pieces.{length_pieces}
 
 -- the words of one record more
 pub put_record : {X : Type 0} (f : X → List ℕ) (w : ℕ) (wide : (x : X) → length (f x) ≡ w) (E : List ℕ) (at : ℕ) (xs : List X) (was new : List ℕ) (i k : ℕ) (x : X) → i < length xs → at ≤ length E → x ≡ get_or xs i x → new ≡ f x → k ≡ w

@@ -1,13 +1,12 @@
 -- What the tests of a list of words leave known, and the graph that is made of it.
-use Rattle.std.proofs.Common.{◌≡◌, ℕ, zero, suc, ◌+◌, ◌-◌, ◌<◌, ◌≤◌, Bool, true, false, not, eqb, ltb, List, length, Some, None, Ok, Err, Option, Result, sym, refl, ap, ◌∙◌, subst, add-one, arith}
+use Rattle.std.proofs.Common.{◌≡◌, ℕ, zero, suc, ◌+◌, ◌-◌, ◌<◌, ◌≤◌, Bool, true, false, not, eqb, ltb, List, length, Some, None, Ok, Err, Option, sym, refl, ap, ◌∙◌, arith}
 use Rattle.std.proofs.lemmas.Bool.{not-false, ltb-false, leb-false, eqb-true, cond-false, lt-leb, not_from_true}
 use Rattle.graph.specs.Net.{Net}
 use Rattle.graph.specs.Calls.{Answer, first_of, settle, is_time, task_rows, link_rows, with_task, add_step, link_step}
 use Rattle.graph.specs.Walks.{least}
 use Rattle.graph.proofs.Walks.{least_none}
-use Rattle.words.specs.declared.refusal.ReadRefusal.{ReadRefusal}
 use Rattle.words.specs.Words.{word_count}
-use Rattle.words.specs.Reading.{word, task_count, link_count, time_place, receiver_place, size_place, newest_missing, next_not_older, not_named_once, time_refused, form_rows, list_rows, verdict, sender_of, with_tasks, with_links, graph_read, link_refusal, first_refused, or_else, read_refusal, read_step}
+use Rattle.words.specs.Reading.{word, task_count, link_count, time_place, receiver_place, size_place, newest_missing, next_not_older, not_named_once, time_refused, form_rows, list_rows, verdict, sender_of, with_tasks, with_links, link_refusal, first_refused}
 use Rattle.words.specs.Lists.{Named, Timely}
 use Rattle.words.proofs.Building.{tasks_built, none_refused}
 use Rattle.words.proofs.Checking.{row_none}
@@ -95,25 +94,3 @@ link_added ws (suc i) k s r z net net' a allowed lo hi ek es er ez en step =
     ∙ ap (λ k. (link_step (with_links ws i) (sender_of ws l) k z).0) er
     ∙ ap (λ k. (link_step (with_links ws i) (sender_of ws l) (word ws (receiver_place ws l)) k).0) ez
     ∙ go ∙ ap (with_links ws) ek
-
--- accepted, or refused by one of the three tests
-pub read_accepted : (net : Net) (ws : List ℕ) (n : ℕ) (m : Net) → first_of (form_rows ws) ≡ None → first_of (list_rows ws) ≡ None → first_refused ws (link_count ws) ≡ None → n ≡ task_count ws → m ≡ graph_read ws
-    → (m, Ok n) ≡ read_step net ws
-read_accepted net ws n m a b c en em =
-    let none : read_refusal ws ≡ None = ap (λ o. or_else o (or_else (first_of (list_rows ws)) (first_refused ws (link_count ws)))) a ∙ ap (λ o. or_else o (first_refused ws (link_count ws))) b ∙ c in
-    let P : Net → ℕ → Type 0 = λ x k. (let t : Net × Result ℕ ReadRefusal = (x, Ok k) in t) ≡ read_step net ws in
-    let all : P (graph_read ws) (task_count ws) = sym (ap (λ o. settle net o (graph_read ws, task_count ws)) none) in
-    subst (λ x. P x n) (sym em) (subst (P (graph_read ws)) (sym en) all)
-
-pub read_refused : (net : Net) (ws : List ℕ) (why : ReadRefusal) → read_refusal ws ≡ Some why → (net, Err why) ≡ read_step net ws
-read_refused net ws why e = sym (ap (λ o. settle net o (graph_read ws, task_count ws)) e)
-
-pub refused_form : (ws : List ℕ) (why : ReadRefusal) → Err why ≡ verdict (first_of (form_rows ws)) → read_refusal ws ≡ Some why
-refused_form ws why e = ap (λ o. or_else o (or_else (first_of (list_rows ws)) (first_refused ws (link_count ws)))) (verdict_err _ why e)
-
-pub refused_lists : (ws : List ℕ) (why : ReadRefusal) → first_of (form_rows ws) ≡ None → Err why ≡ verdict (first_of (list_rows ws)) → read_refusal ws ≡ Some why
-refused_lists ws why a e = ap (λ o. or_else o (or_else (first_of (list_rows ws)) (first_refused ws (link_count ws)))) a ∙ ap (λ o. or_else o (first_refused ws (link_count ws))) (verdict_err _ why e)
-
-pub refused_links : (ws : List ℕ) (why : ReadRefusal) → first_of (form_rows ws) ≡ None → first_of (list_rows ws) ≡ None → Err why ≡ verdict (first_refused ws (link_count ws)) → read_refusal ws ≡ Some why
-refused_links ws why a b e =
-    ap (λ o. or_else o (or_else (first_of (list_rows ws)) (first_refused ws (link_count ws)))) a ∙ ap (λ o. or_else o (first_refused ws (link_count ws))) b ∙ verdict_err _ why e

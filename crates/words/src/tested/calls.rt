@@ -103,7 +103,11 @@ impl<'a> TestedJob<'a> {
         ensures { net_of graph.new ≡ graph_read self.now.job.words.now }
     {
         for link in 1..=self.job.link_count() {
-            let _ = graph.link(self.senders[link], self.job.receiver(link), self.job.size(link));
+            let _ = graph.link(
+                self.senders[link],
+                self.job.receiver(link),
+                self.job.size(link),
+            );
         }
     }
 }

@@ -1,5 +1,4 @@
-use Rattle.std.proofs.Common.{◌≡◌, ℕ, ◌+◌, ◌-◌, ◌<◌, ◌≤◌, eqb, List, length, get_or, sym, ap, ◌∙◌, subst, inl, inr, arith}
-use Rattle.graph.specs.Tables.{count_below}
+use Rattle.std.proofs.Common.{◌≡◌, ℕ, ◌+◌, ◌-◌, ◌<◌, ◌≤◌, List, get_or, sym, ap, ◌∙◌, subst, inl, inr, arith}
 use Rattle.words.proofs.Counting.{Counted, Bumped, bumped_low, counted_none, counted_step}
 use Rattle.words.proofs.names.count_named.Goals as goal
 use Rattle.words.proofs.names.count_named.Goals.{then-link-lt1025, else-link-lt1025, else-loop-number-test, then-loop-number-test+else-number-count}
@@ -28,7 +27,7 @@ loop-number-preserved g c =
       long = c.if-link-lt1025.array_long;
       low = λ k l. omega (arith, low k l);
       counted = λ names tells. counted_more names c.args.counts.now c.loop-number.counts c.if-link-lt1025.counts n (n + 1 - 1) c.named_by-link.result lo (omega arith)
-      (tells n c.named_by-link.result lo c.loop-number-test.true c.named_by-link.ensures) step (c.loop-number.invariant.counted names tells);
+          (tells n c.named_by-link.result lo c.loop-number-test.true c.named_by-link.ensures) step (c.loop-number.invariant.counted names tells);
     }
 
 pub returns : goal.returns
@@ -38,15 +37,15 @@ returns g c = λ names tells l lt.
     let all : Counted (λ i. names (i + 1)) c.args.counts.now c.loop-number-test.counts c.args.count =
     elim c.loop-number-test.branch [
       | else-loop-number-test w ↦
-      (let e : n - 1 ≡ c.args.count = omega (arith, c.loop-number.invariant.near) in
-      subst (λ T. Counted (λ i. names (i + 1)) c.args.counts.now T c.args.count) (sym w.counts-is) (subst (Counted (λ i. names (i + 1)) c.args.counts.now c.loop-number.counts) e (c.loop-number.invariant.counted names tells)))
+          (let e : n - 1 ≡ c.args.count = omega (arith, c.loop-number.invariant.near) in
+          subst (λ T. Counted (λ i. names (i + 1)) c.args.counts.now T c.args.count) (sym w.counts-is) (subst (Counted (λ i. names (i + 1)) c.args.counts.now c.loop-number.counts) e (c.loop-number.invariant.counted names tells)))
       | then-loop-number-test+else-number-count w ↦
-      counted_more names c.args.counts.now c.loop-number.counts c.loop-number-test.counts n c.args.count w.named_by-link.result lo (omega (arith, c.loop-number.invariant.near))
-      (tells n w.named_by-link.result lo w.loop-number-test.true w.named_by-link.ensures)
-      (elim w.if-link-lt1025.branch [
-        | then-link-lt1025 w' ↦ inl (w'.if-link-lt1025.true, w.counts-is ∙ w'.counts-is)
-        | else-link-lt1025 w' ↦ inr (w'.if-link-lt1025.false, w.counts-is ∙ w'.counts-is)
-      ])
-      (c.loop-number.invariant.counted names tells)
+          counted_more names c.args.counts.now c.loop-number.counts c.loop-number-test.counts n c.args.count w.named_by-link.result lo (omega (arith, c.loop-number.invariant.near))
+          (tells n w.named_by-link.result lo w.loop-number-test.true w.named_by-link.ensures)
+          (elim w.if-link-lt1025.branch [
+            | then-link-lt1025 w' ↦ inl (w'.if-link-lt1025.true, w.counts-is ∙ w'.counts-is)
+            | else-link-lt1025 w' ↦ inr (w'.if-link-lt1025.false, w.counts-is ∙ w'.counts-is)
+          ])
+          (c.loop-number.invariant.counted names tells)
     ] in
     all.1 l lt

@@ -1,6 +1,6 @@
-use Rattle.std.proofs.Common.{◌≡◌, ℕ, ◌+◌, ◌-◌, ◌<◌, ◌≤◌, eqb, List, set, sym, ap, ◌∙◌, subst, arith}
+use Rattle.std.proofs.Common.{◌≡◌, ℕ, ◌+◌, ◌-◌, ◌<◌, ◌≤◌, List, set, sym, ap, ◌∙◌, subst, arith}
 use Rattle.std.proofs.lemmas.List.{get_or-replicate, length-replicate}
-use Rattle.words.specs.Reading.{word, task_count, newest_place, latest}
+use Rattle.words.specs.Reading.{word, task_count, newest_place}
 use Rattle.words.proofs.Naming.{Noted, noted_hit}
 use Rattle.words.proofs.names.name_by_tasks.Goals as goal
 

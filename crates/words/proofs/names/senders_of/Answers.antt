@@ -1,4 +1,4 @@
-use Rattle.std.proofs.Common.{◌≡◌, ℕ, sym, subst, arith}
+use Rattle.std.proofs.Common.{◌≡◌, sym, subst, arith}
 use Rattle.words.proofs.Senders.{Handed, handed_none, handed_more, handed_all}
 use Rattle.words.proofs.names.senders_of.Goals as goal
 

@@ -4,7 +4,7 @@ use Rattle.words.proofs.Reading.{link_added}
 use Rattle.words.proofs.tested.TestedJob.add_links.Goals as goal
 
 pub loop-link-preserved : goal.loop-link-preserved
-loop-link-preserved c = 
+loop-link-preserved c =
     let self = c.args.self.now in
     let ws = self.job.words.now in
     let l = c.loop-link.link in

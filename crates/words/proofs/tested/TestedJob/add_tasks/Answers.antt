@@ -4,7 +4,7 @@ use Rattle.words.proofs.Reading.{task_added}
 use Rattle.words.proofs.tested.TestedJob.add_tasks.Goals as goal
 
 pub loop-task-preserved : goal.loop-task-preserved
-loop-task-preserved c = 
+loop-task-preserved c =
     let job = c.args.self.now.job in
     record {
       near = omega arith;

@@ -1,4 +1,4 @@
-use Rattle.std.proofs.Common.{rules, ◌≡◌, ℕ, zero, suc, ◌+◌, ◌-◌, ◌*◌, ◌<◌, ◌≤◌, ◌⊎◌, List, get_or, Some, None, Option, Ok, Err, refl, sym, ap, ◌∙◌, inl, inr, arith}
+use Rattle.std.proofs.Common.{rules, ◌≡◌, ℕ, zero, suc, ◌+◌, ◌-◌, ◌*◌, ◌<◌, ◌≤◌, ◌⊎◌, List, get_or, Some, None, Option, Err, refl, sym, ap, ◌∙◌, inl, inr, arith}
 use Rattle.graph.specs.declared.records.Refusal.{Refusal}
 use Rattle.graph.specs.declared.records.Refusal.TheVariants.{AlreadyLinked}
 use Rattle.graph.specs.Net.{linked}

@@ -1,4 +1,4 @@
-use Rattle.std.proofs.Common.{◌≡◌, ℕ, ◌+◌, ◌-◌, ◌*◌, ◌≤◌, List, None, Some, Option, Ok, Err, replicate, refl, sym, ap, ◌∙◌, arith}
+use Rattle.std.proofs.Common.{◌≡◌, ℕ, ◌+◌, ◌-◌, ◌*◌, ◌≤◌, List, None, Option, replicate, refl, sym, ap, ◌∙◌, arith}
 use Rattle.std.proofs.lemmas.List.{get_or-replicate, length-replicate}
 use Rattle.words.specs.Reading.{link_count, verdict}
 use Rattle.words.specs.Lists.{some_number}
@@ -36,7 +36,7 @@ loop-link-preserved c =
     record {
       near = omega arith;
       checked = checked_more ws c.loop-link.older l (l + 1 - 1) _ _ _ self.job.few_tasks lo (omega arith) c.pair_place.ensures.value c.loop-link.invariant.checked (self.sends l lo hi) c.receiver.ensures (self.known l lo hi)
-      (verdict_ok _ c.in_default.ensures);
+          (verdict_ok _ c.in_default.ensures);
     }
 
 pub returns-in_default : goal.returns-in_default

@@ -1,4 +1,3 @@
-use Rattle.words.specs.Lists.{Named}
 use Rattle.words.proofs.Senders.{sender_known}
 use Rattle.words.proofs.Reading.{verdict_ok, listed}
 use Rattle.words.proofs.tested.TestedJob.read.Goals as goal

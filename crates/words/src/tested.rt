@@ -2,6 +2,7 @@
 ghost use Rattle.words.specs.Lists.{Known, Sends, Timely};
 
 use crate::job::JobWords;
+use crate::layout::LINK_ENTRIES;
 
 pub(crate) mod calls;
 
@@ -9,7 +10,7 @@ pub(crate) mod calls;
 #[derive(Drop)]
 pub(crate) struct TestedJob<'a> {
     job: JobWords<'a>,
-    senders: [u32; 1025],
+    senders: [u32; LINK_ENTRIES],
     ghost sends: { Sends job.words.now senders },
     ghost known: { Known job.words.now },
     ghost timely: { Timely job.words.now },

@@ -29,17 +29,17 @@ impl<'a> JobWords<'a> {
     pub(crate) fn read(words: &'a [u32]) -> Result<JobWords<'a>, ReadRefusal>
         ensures { MatchResult result (λ job. (job.words.now ≡ words.now) × (first_of (form_rows words.now) ≡ None)) (λ why. first_of (form_rows words.now) ≡ Some why) }
     {
-        let [edition, tasks, links, ..] = words else {
+        let &[edition, tasks, links, ..] = words else {
             return Err(ReadRefusal::TooFewWords(words.len()));
         };
-        if *edition != EDITION {
+        if edition != EDITION {
             return Err(ReadRefusal::WrongEdition);
         }
-        let tasks = *tasks as usize;
+        let tasks = tasks as usize;
         if tasks > MAX_TASKS {
             return Err(ReadRefusal::CountTooLarge(1));
         }
-        let links = *links as usize;
+        let links = links as usize;
         if links > MAX_LINKS {
             return Err(ReadRefusal::CountTooLarge(2));
         }

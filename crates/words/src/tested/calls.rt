@@ -8,6 +8,7 @@ ghost use Rattle.words.specs.Lists.{Pairs};
 
 use crate::checks::check_lists;
 use crate::job::JobWords;
+use crate::layout::PAIR_ENTRIES;
 use crate::names::senders_of;
 use crate::refusal::ReadRefusal;
 use crate::tested::TestedJob;
@@ -15,7 +16,8 @@ use graph::graph::Graph;
 use graph::limits::{MAX_SIZE, MAX_TASKS};
 use graph::records::Refusal;
 
-// The place of a pair of tasks in a table with a row for each sender.
+// The place of a pair of tasks in a table with a row for each sender, whose numbers of links are `u16` so that it takes
+// no more than 256 KiB.
 fn pair_place(sender: u32, receiver: u32) -> usize
     requires sender_some { 1 ≤ sender }
     requires sender_known { sender ≤ 256 }
@@ -38,7 +40,7 @@ impl<'a> TestedJob<'a> {
     }
 
     // Whether linking a link after those before it is allowed; `older` has the link of each pair that is linked already.
-    fn allowed(&self, older: &[Option<u16>; 65536], link: usize) -> Result<(), Refusal>
+    fn allowed(&self, older: &[Option<u16>; PAIR_ENTRIES], link: usize) -> Result<(), Refusal>
         requires some { 1 ≤ link }
         requires there { link ≤ link_count self.now.job.words.now }
         requires older { Pairs older.now (with_links self.now.job.words.now (link - 1)).links }
@@ -76,7 +78,7 @@ impl<'a> TestedJob<'a> {
     pub(crate) fn check_links(&self) -> Result<(), ReadRefusal>
         ensures { result ≡ verdict (first_refused self.now.job.words.now (link_count self.now.job.words.now)) }
     {
-        let mut older = [None; 65536];
+        let mut older = [None; PAIR_ENTRIES];
         for link in 1..=self.job.link_count() {
             if let Err(why) = self.allowed(&older, link) {
                 return Err(ReadRefusal::Refused(self.fault_place(link, why), why));

@@ -1,5 +1,5 @@
 -- The links of a list of words, tested one by one.
-use Rattle.std.proofs.Common.{◌≡◌, ℕ, zero, suc, ◌+◌, ◌-◌, ◌*◌, ◌<◌, ◌≤◌, Bool, true, false, cond, not, List, [], ◌∷◌, ◌++◌, length, set, Some, None, Err, Option, sym, refl, ap, ◌∙◌, subst, add-one, arith, length-set}
+use Rattle.std.proofs.Common.{◌≡◌, ℕ, zero, suc, ◌+◌, ◌-◌, ◌*◌, ◌≤◌, Bool, true, false, cond, not, List, [], ◌∷◌, ◌++◌, length, set, Some, None, Err, Option, sym, refl, ap, ◌∙◌, subst, arith, length-set}
 use Rattle.std.proofs.lemmas.Bool.{not-false}
 use Rattle.graph.specs.declared.records.Link.{Link}
 use Rattle.graph.specs.declared.records.Refusal.{Refusal}
@@ -28,7 +28,7 @@ receiver_known ws l e =
     let p = numbered (length net.tasks) r t in
     (p.0, omega (arith, p.1, tasks_stay ws (l - 1)))
 
-pub record Checked (ws T : List ℕ) (i : ℕ) : Type 0 where
+pub record Checked (ws : List ℕ) (T : List (Option ℕ)) (i : ℕ) : Type 0 where
   pub long : length T ≡ 65536
   pub passed : first_refused ws i ≡ None
   pub pairs : Pairs T (with_links ws i).links
@@ -36,21 +36,22 @@ pub record Checked (ws T : List ℕ) (i : ℕ) : Type 0 where
 pub passes : (ws : List ℕ) (i : ℕ) → first_refused ws i ≡ None → link_refusal ws (suc i) ≡ None → first_refused ws (suc i) ≡ None
 passes ws i e f = ap (λ o. or_else o (at_link ws (suc i) (link_refusal ws (suc i)))) e ∙ ap (at_link ws (suc i)) f
 
-pub checked_more : (ws T : List ℕ) (i s r : ℕ) → task_count ws ≤ 256 → Checked ws T i → s ≡ sender_of ws (i + 1) → r ≡ word ws (receiver_place ws (i + 1))
-    → (1 ≤ sender_of ws (i + 1)) × (sender_of ws (i + 1) ≤ task_count ws) → link_refusal ws (i + 1) ≡ None → Checked ws (set T ((s - 1) * 256 + (r - 1)) (i + 1)) (i + 1)
-checked_more ws T i s r few c es er known allowed =
-    let P : ℕ → Type 0 = λ k. Checked ws (set T ((s - 1) * 256 + (r - 1)) (i + 1)) k in
+pub checked_more : (ws : List ℕ) (T : List (Option ℕ)) (l k s r p : ℕ) → task_count ws ≤ 256 → 1 ≤ l → l ≡ k → p ≡ (s - 1) * 256 + (r - 1) → Checked ws T (l - 1) → s ≡ sender_of ws l → r ≡ word ws (receiver_place ws l)
+    → (1 ≤ sender_of ws l) × (sender_of ws l ≤ task_count ws) → link_refusal ws l ≡ None → Checked ws (set T p (Some l)) k
+checked_more ws T zero k s r p few lo ek ep c es er known allowed = absurd (omega arith)
+checked_more ws T (suc i) k s r p few lo ek ep c es er known allowed =
+    let back : suc i - 1 ≡ i = omega arith in
+    let was : Checked ws T i = subst (Checked ws T) back c in
     let x : Link = record { sender = sender_of ws (suc i); receiver = word ws (receiver_place ws (suc i)); size = word ws (size_place ws (suc i)); next = newest_of (with_links ws i).links (sender_of ws (suc i)) } in
-    let k = receiver_known ws (i + 1) allowed in
-    let s' : s ≡ sender_of ws (suc i) = es ∙ ap (sender_of ws) (add-one i) in
-    let r' : r ≡ word ws (receiver_place ws (suc i)) = er ∙ ap (λ j. word ws (receiver_place ws j)) (add-one i) in
-    let Q : ℕ → ℕ → Type 0 = λ a b. Pairs (set T ((a - 1) * 256 + (b - 1)) (i + 1)) ((with_links ws i).links ++ x ∷ []) in
-    let full = pairs_more T (with_links ws i).links x (i + 1) c.long c.pairs (omega (arith, known.0, es, s')) (omega (arith, known.1, es, s')) (omega (arith, k.0, er, r')) (omega (arith, k.1, er, r')) (ap (λ j. j + 1) (sym (links_built ws i))) in
-    subst P (sym (add-one i)) (record {
-      long = length-set T _ _ ∙ c.long;
-      passed = passes ws i c.passed (ap (link_refusal ws) (sym (add-one i)) ∙ allowed);
-      pairs = subst (λ a. Q a r) (sym s') (subst (Q (sender_of ws (suc i))) (sym r') full);
-    })
+    let j = receiver_known ws (suc i) allowed in
+    let Q : ℕ → ℕ → Type 0 = λ a b. Pairs (set T ((a - 1) * 256 + (b - 1)) (Some (suc i))) ((with_links ws i).links ++ x ∷ []) in
+    let n : suc i ≡ length (with_links ws i).links + 1 = omega (arith, links_built ws i) in
+    let full = pairs_more T (with_links ws i).links x (suc i) was.long was.pairs (omega (arith, known.0)) (omega (arith, known.1)) (omega (arith, j.0)) (omega (arith, j.1)) n in
+    subst (λ q. Checked ws (set T q (Some (suc i))) k) (sym ep) (subst (Checked ws (set T ((s - 1) * 256 + (r - 1)) (Some (suc i)))) ek (record {
+      long = length-set T _ _ ∙ was.long;
+      passed = passes ws i was.passed allowed;
+      pairs = subst (λ a. Q a r) (sym es) (subst (Q (sender_of ws (suc i))) (sym er) full);
+    }))
 
 -- the first that is refused stays so
 pub refused_stays : (ws : List ℕ) (i k : ℕ) (why : ReadRefusal) → first_refused ws i ≡ Some why → first_refused ws (i + k) ≡ Some why
@@ -59,12 +60,14 @@ refused_stays ws i (suc k) why e =
     let q : i + suc k ≡ suc (i + k) = omega arith in
     ap (first_refused ws) q ∙ ap (λ o. or_else o (at_link ws (suc (i + k)) (link_refusal ws (suc (i + k))))) (refused_stays ws i k why e)
 
-pub refused_here : (ws : List ℕ) (i p : ℕ) (why : Refusal) → i < link_count ws → first_refused ws i ≡ None → Some why ≡ link_refusal ws (i + 1) → p ≡ fault_place ws (i + 1) why
+pub refused_here : (ws : List ℕ) (l p : ℕ) (why : Refusal) → 1 ≤ l → l ≤ link_count ws → first_refused ws (l - 1) ≡ None → Some why ≡ link_refusal ws l → p ≡ fault_place ws l why
     → Err (Refused p why) ≡ verdict (first_refused ws (link_count ws))
-refused_here ws i p why lt e f g =
+refused_here ws zero p why lo hi e f g = absurd (omega arith)
+refused_here ws (suc i) p why lo hi e f g =
+    let back : suc i - 1 ≡ i = omega arith in
     let far : suc i + (link_count ws - suc i) ≡ link_count ws = omega arith in
     let here : first_refused ws (suc i) ≡ Some (Refused p why) =
-    ap (λ o. or_else o (at_link ws (suc i) (link_refusal ws (suc i)))) e
-    ∙ ap (at_link ws (suc i)) (ap (link_refusal ws) (sym (add-one i)) ∙ sym f)
-    ∙ ap (λ k. Some (Refused k why)) (ap (λ j. fault_place ws j why) (sym (add-one i)) ∙ sym g) in
+    ap (λ o. or_else o (at_link ws (suc i) (link_refusal ws (suc i)))) (ap (first_refused ws) (sym back) ∙ e)
+    ∙ ap (at_link ws (suc i)) (sym f)
+    ∙ ap (λ k. Some (Refused k why)) (sym g) in
     sym (ap verdict (ap (first_refused ws) (sym far) ∙ refused_stays ws (suc i) (link_count ws - suc i) (Refused p why) here))

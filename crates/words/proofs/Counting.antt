@@ -1,9 +1,27 @@
 -- Counts of what words name.
-use Rattle.std.proofs.Common.{◌≡◌, ℕ, zero, suc, ◌+◌, ◌<◌, ◌≤◌, Bool, cond, eqb, List, length, get_or, set, sym, refl, ap, ◌∙◌, ⊎_elim, arith}
+use Rattle.std.proofs.Common.{◌≡◌, ℕ, ◌+◌, ◌<◌, ◌≤◌, ◌⊎◌, eqb, List, length, get_or, set, sym, ap, ◌∙◌, subst, ⊎_elim, arith}
 use Rattle.std.proofs.lemmas.List.{get_or-set_same, get_or-set_other}
 use Rattle.std.proofs.lemmas.Bool.{cases_eq, eq-eqb, ne_eqb}
 use Rattle.graph.specs.Tables.{count_below}
 use Rattle.graph.proofs.Tables.{count_hit, count_miss}
+
+-- the table after one more count, where there is an entry for it
+abbrev pub Bumped : List ℕ → List ℕ → ℕ → Type 0
+Bumped T T' m = ((m < 1025) × (T' ≡ set T m (get_or T m 0 + 1))) ⊎ ((1025 ≤ m) × (T' ≡ T))
+
+-- no count rises by more than 1
+pub bumped_low : (T T' : List ℕ) (m b : ℕ) → length T ≡ 1025 → Bumped T T' m → ((k : ℕ) → k < 1025 → get_or T k 0 ≤ b) → (k : ℕ) → k < 1025 → get_or T' k 0 ≤ b + 1
+bumped_low T T' m b n step low k lt = ⊎_elim
+    (λ (h : (m < 1025) × (T' ≡ set T m (get_or T m 0 + 1))).
+    let p : get_or T' k 0 ≡ get_or (set T m (get_or T m 0 + 1)) k 0 = ap (λ X. get_or X k 0) h.1 in
+    ⊎_elim
+    (λ (same : k ≡ m).
+    let read : get_or (set T m (get_or T m 0 + 1)) k 0 ≡ get_or T m 0 + 1 = rw same (get_or-set_same T m (get_or T m 0 + 1) 0 (omega arith)) in
+    omega (arith, p, low m h.0))
+    (λ (ne : k ≡ m → ⊥). omega (arith, p, get_or-set_other T m k (get_or T m 0 + 1) 0 ne, low k lt))
+    (cases_eq k m))
+    (λ (h : (1025 ≤ m) × (T' ≡ T)). omega (arith, ap (λ X. get_or X k 0) h.1, low k lt))
+    step
 
 module _ (f : ℕ → ℕ) (E : List ℕ) where
   -- the counts after the first i
@@ -38,6 +56,8 @@ module _ (f : ℕ → ℕ) (E : List ℕ) where
         omega (arith, c.1 k l),
   )
 
-pub count_same : (p q : ℕ → Bool) (n : ℕ) → ((k : ℕ) → k < n → p k ≡ q k) → count_below p n ≡ count_below q n
-count_same p q zero h = refl
-count_same p q (suc n) h = ap (λ b. cond b 1 0 + count_below p n) (h n (omega arith)) ∙ ap (λ m. cond (q n) 1 0 + m) (count_same p q n (λ k l. h k (omega arith)))
+  pub counted_step : (T T' : List ℕ) (i m : ℕ) → f i ≡ m → Bumped T T' m → Counted T i → Counted T' (i + 1)
+  counted_step T T' i m e step c = ⊎_elim
+      (λ (h : (m < 1025) × (T' ≡ set T m (get_or T m 0 + 1))). subst (λ X. Counted X (i + 1)) (sym h.1) (counted_hit T i m e h.0 c))
+      (λ (h : (1025 ≤ m) × (T' ≡ T)). subst (λ X. Counted X (i + 1)) (sym h.1) (counted_miss T i m e h.0 c))
+      step

@@ -9,6 +9,7 @@ pub mod Pairing
 pub mod Checking
 pub mod Reading
 pub mod Tables
+pub mod Chunks
 pub mod Pointers
 pub mod WrittenBack
 pub mod ReadsBack

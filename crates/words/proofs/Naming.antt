@@ -1,5 +1,5 @@
 -- The table of who named each number last.
-use Rattle.std.proofs.Common.{◌≡◌, ℕ, suc, ◌+◌, ◌<◌, ◌≤◌, eqb, List, length, get_or, set, sym, ap, ◌∙◌, ⊎_elim, add-one, arith, length-set}
+use Rattle.std.proofs.Common.{◌≡◌, ℕ, suc, ◌+◌, ◌<◌, eqb, List, length, get_or, set, sym, ap, ◌∙◌, ⊎_elim, add-one, arith, length-set}
 use Rattle.std.proofs.lemmas.List.{get_or-set_same, get_or-set_other}
 use Rattle.std.proofs.lemmas.Bool.{cases_eq, eq-eqb, ne_eqb}
 use Rattle.words.specs.Reading.{latest}
@@ -23,12 +23,4 @@ module _ (f : ℕ → ℕ) where
         (λ (ne : k ≡ m → ⊥).
         get_or-set_other T m k (i + 1) 0 ne ∙ c.1 k l ∙ sym (latest_miss (λ t. eqb (f t) k) i (ne_eqb _ _ (λ q. ne (sym q ∙ at)))) ∙ sym step)
         (cases_eq k m),
-  )
-
-  pub noted_miss : (T : List ℕ) (i m : ℕ) → f (i + 1) ≡ m → 1025 ≤ m → Noted T i → Noted T (i + 1)
-  noted_miss T i m e ge c = (
-    c.0,
-    λ k l.
-        let at : f (suc i) ≡ m = ap f (sym (add-one i)) ∙ e in
-        c.1 k l ∙ sym (latest_miss (λ t. eqb (f t) k) i (ne_eqb (f (suc i)) k (λ (q : f (suc i) ≡ k). omega arith))) ∙ sym (ap (latest (λ t. eqb (f t) k)) (add-one i)),
   )

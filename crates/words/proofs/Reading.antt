@@ -1,30 +1,28 @@
 -- What the tests of a list of words leave known, and the graph that is made of it.
-use Rattle.std.proofs.Common.{◌≡◌, ℕ, suc, ◌+◌, ◌-◌, ◌<◌, ◌≤◌, Bool, true, false, not, eqb, ltb, List, length, Some, None, Ok, Err, Option, Result, sym, refl, ap, ◌∙◌, subst, add-one, arith}
+use Rattle.std.proofs.Common.{◌≡◌, ℕ, zero, suc, ◌+◌, ◌-◌, ◌<◌, ◌≤◌, Bool, true, false, not, eqb, ltb, List, length, Some, None, Ok, Err, Option, sym, refl, ap, ◌∙◌, arith}
 use Rattle.std.proofs.lemmas.Bool.{not-false, ltb-false, leb-false, eqb-true, cond-false, lt-leb, not_from_true}
 use Rattle.graph.specs.Net.{Net}
 use Rattle.graph.specs.Calls.{Answer, first_of, settle, is_time, task_rows, link_rows, with_task, add_step, link_step}
 use Rattle.graph.specs.Walks.{least}
 use Rattle.graph.proofs.Walks.{least_none}
-use Rattle.words.specs.declared.refusal.ReadRefusal.{ReadRefusal}
 use Rattle.words.specs.Words.{word_count}
-use Rattle.words.specs.Reading.{word, task_count, link_count, time_place, receiver_place, size_place, newest_missing, next_not_older, not_named_once, time_refused, form_rows, list_rows, verdict, sender_of, with_tasks, with_links, graph_read, link_refusal, first_refused, or_else, read_refusal, read_step}
-use Rattle.words.specs.Lists.{Few, Named, Timely}
+use Rattle.words.specs.Reading.{word, task_count, link_count, time_place, receiver_place, size_place, newest_missing, next_not_older, not_named_once, time_refused, form_rows, list_rows, verdict, sender_of, with_tasks, with_links, link_refusal, first_refused}
+use Rattle.words.specs.Lists.{Named, Timely}
 use Rattle.words.proofs.Building.{tasks_built, none_refused}
 use Rattle.words.proofs.Checking.{row_none}
 
-pub verdict_ok : (o : Option ReadRefusal) → Ok tt ≡ verdict o → o ≡ None
+pub verdict_ok : {R : Type 0} → (o : Option R) → Ok tt ≡ verdict o → o ≡ None
 verdict_ok None e = refl
-verdict_ok (Some why) e = absurd (let z : ◌≡◌ {A = ℕ} 0 1 = cc in omega arith)
+verdict_ok (Some why) e = cc
 
-pub verdict_err : (o : Option ReadRefusal) (why : ReadRefusal) → Err why ≡ verdict o → o ≡ Some why
-verdict_err None why e = absurd (let z : ◌≡◌ {A = ℕ} 0 1 = cc in omega arith)
-verdict_err (Some w) why e = let q : w ≡ why = cc in ap Some q
+pub verdict_err : {R : Type 0} → (o : Option R) (why : R) → Err why ≡ verdict o → o ≡ Some why
+verdict_err None why e = cc
+verdict_err (Some w) why e = cc
 
 -- words of the right form
 pub record Formed (ws : List ℕ) : Type 0 where
   pub three : 3 ≤ length ws
   pub edition : word ws 0 ≡ 1
-  pub few : Few ws
   pub long : length ws ≡ word_count (task_count ws) (link_count ws)
 
 pub formed : (ws : List ℕ) → first_of (form_rows ws) ≡ None → Formed ws
@@ -37,7 +35,6 @@ formed ws e =
     record {
       three = ltb-false _ _ a.0;
       edition = eqb-true _ _ (not-false _ b.0);
-      few = record { tasks = ltb-false _ _ c.0; links = ltb-false _ _ d.0 };
       long = eqb-true _ _ (not-false _ f.0);
     }
 
@@ -70,50 +67,30 @@ adds net time ok room =
     let none : first_of (task_rows net time) ≡ None = cond-false _ _ _ (not_from_true _ ok) ∙ cond-false _ _ _ (lt-leb 256 _ room) in
     ap (λ o. (settle net o (with_task net time, length net.tasks + 1)).0) none
 
-pub task_added : (ws : List ℕ) (i v : ℕ) (net net' : Net) (r : Answer) → Timely ws → task_count ws ≤ 256 → i < task_count ws → v ≡ word ws (time_place (i + 1)) → net ≡ with_tasks ws i → (net', r) ≡ add_step net v
-    → net' ≡ with_tasks ws (i + 1)
-task_added ws i v net net' r timely few lt ev en step =
+pub task_added : (ws : List ℕ) (t k v : ℕ) (net net' : Net) (r : Answer) → Timely ws → task_count ws ≤ 256 → 1 ≤ t → t ≤ task_count ws → t ≡ k → v ≡ word ws (time_place t) → net ≡ with_tasks ws (t - 1)
+    → (net', r) ≡ add_step net v → net' ≡ with_tasks ws k
+task_added ws zero k v net net' r timely few lo hi ek ev en step = absurd (omega arith)
+task_added ws (suc i) k v net net' r timely few lo hi ek ev en step =
+    let back : suc i - 1 ≡ i = omega arith in
+    let was : net ≡ with_tasks ws i = en ∙ ap (with_tasks ws) back in
     ap (λ (p : Net × Answer). p.0) step
-    ∙ adds net v (ap is_time ev ∙ timely (i + 1) (omega arith) (omega arith)) (omega (arith, ap (λ (m : Net). length m.tasks) en, tasks_built ws i))
-    ∙ ap (λ m. with_task m v) en ∙ ap (with_task (with_tasks ws i)) (ev ∙ ap (λ k. word ws (time_place k)) (add-one i)) ∙ ap (with_tasks ws) (sym (add-one i))
+    ∙ adds net v (ap is_time ev ∙ timely (suc i) lo hi) (omega (arith, ap (λ (m : Net). length m.tasks) was, tasks_built ws i))
+    ∙ ap (λ m. with_task m v) was ∙ ap (with_task (with_tasks ws i)) ev ∙ ap (with_tasks ws) ek
 
-pub link_added : (ws : List ℕ) (i s r z : ℕ) (net net' : Net) (a : Answer) → first_refused ws (link_count ws) ≡ None → i < link_count ws
-    → s ≡ sender_of ws (i + 1) → r ≡ word ws (receiver_place ws (i + 1)) → z ≡ word ws (size_place ws (i + 1)) → net ≡ with_links ws i → (net', a) ≡ link_step net s r z → net' ≡ with_links ws (i + 1)
-link_added ws i s r z net net' a allowed lt es er ez en step =
+pub link_added : (ws : List ℕ) (l k s r z : ℕ) (net net' : Net) (a : Answer) → first_refused ws (link_count ws) ≡ None → 1 ≤ l → l ≤ link_count ws → l ≡ k
+    → s ≡ sender_of ws l → r ≡ word ws (receiver_place ws l) → z ≡ word ws (size_place ws l) → net ≡ with_links ws (l - 1) → (net', a) ≡ link_step net s r z → net' ≡ with_links ws k
+link_added ws zero k s r z net net' a allowed lo hi ek es er ez en step = absurd (omega arith)
+link_added ws (suc i) k s r z net net' a allowed lo hi ek es er ez en step =
     let l = suc i in
-    let s' = es ∙ ap (sender_of ws) (add-one i) in
-    let r' = er ∙ ap (λ k. word ws (receiver_place ws k)) (add-one i) in
-    let z' = ez ∙ ap (λ k. word ws (size_place ws k)) (add-one i) in
-    let none : link_refusal ws l ≡ None = none_refused ws (link_count ws) l allowed (omega arith) (omega arith) in
     let back : l - 1 ≡ i = omega arith in
+    let was : net ≡ with_links ws i = en ∙ ap (with_links ws) back in
+    let none : link_refusal ws l ≡ None = none_refused ws (link_count ws) l allowed lo hi in
     let go : (link_step (with_links ws i) (sender_of ws l) (word ws (receiver_place ws l)) (word ws (size_place ws l))).0 ≡ with_links ws l =
     ap (λ o. (settle (with_links ws i) o (with_links ws l, length (with_links ws i).links + 1)).0)
     (ap (λ k. first_of (link_rows (with_links ws k) (sender_of ws l) (word ws (receiver_place ws l)) (word ws (size_place ws l)))) (sym back) ∙ none) in
     ap (λ (p : Net × Answer). p.0) step
-    ∙ ap (λ m. (link_step m s r z).0) en
-    ∙ ap (λ k. (link_step (with_links ws i) k r z).0) s'
-    ∙ ap (λ k. (link_step (with_links ws i) (sender_of ws l) k z).0) r'
-    ∙ ap (λ k. (link_step (with_links ws i) (sender_of ws l) (word ws (receiver_place ws l)) k).0) z'
-    ∙ go ∙ ap (with_links ws) (sym (add-one i))
-
--- accepted, or refused by one of the three tests
-pub read_accepted : (net : Net) (ws : List ℕ) (n : ℕ) (m : Net) → first_of (form_rows ws) ≡ None → first_of (list_rows ws) ≡ None → first_refused ws (link_count ws) ≡ None → n ≡ task_count ws → m ≡ graph_read ws
-    → (m, Ok n) ≡ read_step net ws
-read_accepted net ws n m a b c en em =
-    let none : read_refusal ws ≡ None = ap (λ o. or_else o (or_else (first_of (list_rows ws)) (first_refused ws (link_count ws)))) a ∙ ap (λ o. or_else o (first_refused ws (link_count ws))) b ∙ c in
-    let P : Net → ℕ → Type 0 = λ x k. (let t : Net × Result ℕ ReadRefusal = (x, Ok k) in t) ≡ read_step net ws in
-    let all : P (graph_read ws) (task_count ws) = sym (ap (λ o. settle net o (graph_read ws, task_count ws)) none) in
-    subst (λ x. P x n) (sym em) (subst (P (graph_read ws)) (sym en) all)
-
-pub read_refused : (net : Net) (ws : List ℕ) (why : ReadRefusal) → read_refusal ws ≡ Some why → (net, Err why) ≡ read_step net ws
-read_refused net ws why e = sym (ap (λ o. settle net o (graph_read ws, task_count ws)) e)
-
-pub refused_form : (ws : List ℕ) (why : ReadRefusal) → Err why ≡ verdict (first_of (form_rows ws)) → read_refusal ws ≡ Some why
-refused_form ws why e = ap (λ o. or_else o (or_else (first_of (list_rows ws)) (first_refused ws (link_count ws)))) (verdict_err _ why e)
-
-pub refused_lists : (ws : List ℕ) (why : ReadRefusal) → first_of (form_rows ws) ≡ None → Err why ≡ verdict (first_of (list_rows ws)) → read_refusal ws ≡ Some why
-refused_lists ws why a e = ap (λ o. or_else o (or_else (first_of (list_rows ws)) (first_refused ws (link_count ws)))) a ∙ ap (λ o. or_else o (first_refused ws (link_count ws))) (verdict_err _ why e)
-
-pub refused_links : (ws : List ℕ) (why : ReadRefusal) → first_of (form_rows ws) ≡ None → first_of (list_rows ws) ≡ None → Err why ≡ verdict (first_refused ws (link_count ws)) → read_refusal ws ≡ Some why
-refused_links ws why a b e =
-    ap (λ o. or_else o (or_else (first_of (list_rows ws)) (first_refused ws (link_count ws)))) a ∙ ap (λ o. or_else o (first_refused ws (link_count ws))) b ∙ verdict_err _ why e
+    ∙ ap (λ m. (link_step m s r z).0) was
+    ∙ ap (λ k. (link_step (with_links ws i) k r z).0) es
+    ∙ ap (λ k. (link_step (with_links ws i) (sender_of ws l) k z).0) er
+    ∙ ap (λ k. (link_step (with_links ws i) (sender_of ws l) (word ws (receiver_place ws l)) k).0) ez
+    ∙ go ∙ ap (with_links ws) ek

@@ -1,14 +1,9 @@
 -- What is known of words whose lists of links were tested.
-use Rattle.std.specs.Prelude.{◌≡◌, ℕ, ◌+◌, ◌*◌, ◌<◌, ◌≤◌, true, List, slice_index}
+use Rattle.std.specs.Prelude.{◌≡◌, ℕ, zero, suc, ◌+◌, ◌*◌, ◌<◌, ◌≤◌, true, List, Some, None, Option, slice_index, slice_index_or}
 use Rattle.graph.specs.declared.records.Link.{Link}
 use Rattle.graph.specs.Net.{linked}
 use Rattle.graph.specs.Calls.{is_time}
 use Rattle.words.specs.Reading.{word, task_count, link_count, time_place, newest_place, next_place, times_named, sender_of}
-
--- the counts are within the limits
-pub record Few (ws : List ℕ) : Type 0 where
-  pub tasks : task_count ws ≤ 256
-  pub links : link_count ws ≤ 1024
 
 -- every pointer leads to a link that is there and older, and every link is named once
 pub record Named (ws : List ℕ) : Type 0 where
@@ -20,11 +15,27 @@ pub record Named (ws : List ℕ) : Type 0 where
 abbrev pub Timely : List ℕ → Type 0
 Timely ws = (t : ℕ) → 1 ≤ t → t ≤ task_count ws → is_time (word ws (time_place t)) ≡ true
 
--- a table of the senders, which are tasks
-pub record Knows (ws senders : List ℕ) : Type 0 where
-  pub is : (l : ℕ) → 1 ≤ l → l ≤ link_count ws → slice_index senders l ≡ sender_of ws l
-  pub known : (l : ℕ) → 1 ≤ l → l ≤ link_count ws → (1 ≤ sender_of ws l) × (sender_of ws l ≤ task_count ws)
+-- a table of the senders
+abbrev pub Sends : List ℕ → List ℕ → Type 0
+Sends ws senders = (l : ℕ) → 1 ≤ l → l ≤ link_count ws → slice_index senders l ≡ sender_of ws l
 
--- a table of 256 rows: at row a and column b the link from task a + 1 to task b + 1, or 0
-abbrev pub Pairs : List ℕ → List Link → Type 0
-Pairs table links = (a b : ℕ) → a < 256 → b < 256 → slice_index table (a * 256 + b) ≡ linked links (a + 1) (b + 1)
+-- the senders are tasks
+abbrev pub Known : List ℕ → Type 0
+Known ws = (l : ℕ) → 1 ≤ l → l ≤ link_count ws → (1 ≤ sender_of ws l) × (sender_of ws l ≤ task_count ws)
+
+-- each call at a number from 1 to n may be made
+abbrev pub Takes : (ℕ → Type 0) → ℕ → Type 0
+Takes pre n = (k : ℕ) → 1 ≤ k → k ≤ n → pre k
+
+-- each call at a number from 1 to n answers what f says
+abbrev pub Tells : {A : Type 0} → (ℕ → A → Type 0) → ℕ → (ℕ → A) → Type 0
+Tells {A} post n f = (k : ℕ) (x : A) → 1 ≤ k → k ≤ n → post k x → x ≡ f k
+
+-- a number from 1, where 0 stands for none
+abbrev pub some_number : ℕ → Option ℕ
+some_number zero = None
+some_number (suc n) = Some (suc n)
+
+-- a table of 256 rows: at row a and column b the link from task a + 1 to task b + 1, if there is one
+abbrev pub Pairs : List (Option ℕ) → List Link → Type 0
+Pairs table links = (a b : ℕ) → a < 256 → b < 256 → slice_index_or table (a * 256 + b) None ≡ some_number (linked links (a + 1) (b + 1))

@@ -146,8 +146,8 @@ first_refused ws (suc l) = or_else (first_refused ws l) (at_link ws (suc l) (lin
 abbrev pub read_refusal : List ℕ → Option ReadRefusal
 read_refusal ws = or_else (first_of (form_rows ws)) (or_else (first_of (list_rows ws)) (first_refused ws (link_count ws)))
 
--- a test of the words answers nothing, or the refusal
-abbrev pub verdict : Option ReadRefusal → Result (Unit {0}) ReadRefusal
+-- a test answers nothing, or the refusal
+abbrev pub verdict : {R : Type 0} → Option R → Result (Unit {0}) R
 verdict None = Ok tt
 verdict (Some why) = Err why
 

@@ -1,5 +1,5 @@
 -- The number and the place of each refusal of a list of words, of layer 2, and the graph's refusal below it.
-use Rattle.std.specs.Prelude.{ℕ, Some, None, Option}
+use Rattle.std.specs.Prelude.{ℕ, List, ◌++◌, Some, None, Option, codes, decimal}
 use Rattle.graph.specs.declared.records.Refusal.{Refusal}
 use Rattle.graph.specs.Refusals as graph
 use Rattle.words.specs.declared.refusal.ReadRefusal.{ReadRefusal}
@@ -31,3 +31,11 @@ below (WrongLength n) = None
 below (WrongPointer w) = None
 below (NotNamedOnce w) = None
 below (Refused w why) = Some why
+
+-- what is printed of a refusal of layer 2, and then of the graph's below it, which is of layer 1, as "2 4 11 1 4 9"
+abbrev pub text_over : ℕ → ℕ → Option Refusal → List ℕ
+text_over number place None = codes "2 " ++ (decimal number ++ (codes " " ++ decimal place))
+text_over number place (Some why) = codes "2 " ++ (decimal number ++ (codes " " ++ (decimal place ++ (codes " 1 " ++ (decimal (graph.number_of why) ++ (codes " " ++ decimal (graph.place_of why)))))))
+
+abbrev pub refusal_text : ReadRefusal → List ℕ
+refusal_text why = text_over (number_of why) (place_of why) (below why)

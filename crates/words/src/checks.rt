@@ -1,86 +1,61 @@
-// Tests on the words of one task or link, and the first number at which one holds.
-ghost use Rattle.std.specs.Prelude.{◌≡◌, ℕ, ◌≤◌, Bool, not, ◌==◌, slice_index};
-ghost use Rattle.graph.specs.Walks.{least};
-ghost use Rattle.words.specs.Reading.{newest_missing, next_not_older, time_refused};
+// The lists of links in job words, and their times, tested before the graph is touched.
+ghost use Rattle.std.specs.Prelude.{◌≡◌, ℕ, ◌≤◌, Bool, [], ◌∷◌};
+ghost use Rattle.graph.specs.Calls.{first_of};
+ghost use Rattle.words.specs.declared.refusal.ReadRefusal.{ReadRefusal};
+ghost use Rattle.words.specs.Reading.{at_first, list_rows, verdict};
+ghost use Rattle.words.specs.Lists.{Takes, Tells};
 
-use crate::places::{link_count, newest_place, next_place, time_place, word};
+use crate::job::JobWords;
+use crate::job::calls::{newest_place, time_place};
+use crate::names::count_names;
+use crate::refusal::ReadRefusal;
 use graph::graph::calls::time_in_range;
+use graph::records::Refusal;
 
-// A test by the number of a task or a link.
-pub(crate) trait Test {
-    ghost holds: { Self → ℕ → Bool };
-
-    fn holds_at(&self, number: usize) -> bool
-        requires { number ≤ 1024 }
-        ensures { result ≡ holds self.now number };
-}
-
-// The first of the numbers 1 to `count` at which a test holds, or 0.
-pub(crate) fn first_where<T: Test>(test: &T, count: usize) -> usize
-    requires { count ≤ 1024 }
-    ensures value { result ≡ least (T.holds test.now) count }
-    ensures bound { result ≤ count }
+// Refuses the first of the numbers 1 to `count` at which a test holds.
+fn refuse_first<F: Fn(usize) -> bool, R: Fn(usize) -> ReadRefusal>(
+    count: usize,
+    holds: F,
+    refusal: R,
+) -> Result<(), ReadRefusal>
+    requires few { count ≤ 1024 }
+    requires tests { Takes (F.pre holds) count }
+    requires refuses { Takes (R.pre refusal) count }
+    ensures { (test : ℕ → Bool) (why : ℕ → ReadRefusal) → Tells (F.post holds) count test → Tells (R.post refusal) count why → result ≡ verdict (first_of (at_first test count why ∷ [])) }
 {
-    for before in 0..count {
-        if test.holds_at(before + 1) {
-            return before + 1;
+    for number in 1..=count {
+        if holds(number) {
+            return Err(refusal(number));
         }
     }
-    0
+    Ok(())
 }
 
-// A task's newest link is not there.
-#[derive(Clone, Copy)]
-pub(crate) struct NewestMissing<'a> {
-    pub words: &'a [u32],
-}
-
-impl<'a> Test for NewestMissing<'a> {
-    ghost holds = { λ f t. newest_missing f.words.now t };
-
-    fn holds_at(&self, number: usize) -> bool {
-        link_count(self.words) < word(self.words, newest_place(number)) as usize
-    }
-}
-
-// A link's next link is not older.
-#[derive(Clone, Copy)]
-pub(crate) struct NextNotOlder<'a> {
-    pub words: &'a [u32],
-}
-
-impl<'a> Test for NextNotOlder<'a> {
-    ghost holds = { λ f l. next_not_older f.words.now l };
-
-    fn holds_at(&self, number: usize) -> bool {
-        number <= word(self.words, next_place(self.words, number)) as usize
-    }
-}
-
-// A link is not counted just once.
-#[derive(Clone, Copy)]
-pub(crate) struct NotCountedOnce<'a> {
-    pub counts: &'a [u32; 1025],
-}
-
-impl<'a> Test for NotCountedOnce<'a> {
-    ghost holds = { λ f l. not (slice_index f.counts.now l == 1) };
-
-    fn holds_at(&self, number: usize) -> bool {
-        self.counts[number] != 1
-    }
-}
-
-// A task's time is out of range.
-#[derive(Clone, Copy)]
-pub(crate) struct TimeRefused<'a> {
-    pub words: &'a [u32],
-}
-
-impl<'a> Test for TimeRefused<'a> {
-    ghost holds = { λ f t. time_refused f.words.now t };
-
-    fn holds_at(&self, number: usize) -> bool {
-        !time_in_range(word(self.words, time_place(number)))
-    }
+// Every pointer to an older link, every link named once, every time in range.
+pub(crate) fn check_lists(job: &JobWords) -> Result<(), ReadRefusal>
+    ensures { result ≡ verdict (first_of (list_rows job.now.words.now)) }
+{
+    let tasks = job.task_count();
+    let links = job.link_count();
+    refuse_first(
+        tasks,
+        |t| job.newest(t) > links,
+        |t| ReadRefusal::WrongPointer(newest_place(t) as u32),
+    )?;
+    refuse_first(
+        links,
+        |l| job.next(l) >= l,
+        |l| ReadRefusal::WrongPointer(job.next_place(l) as u32),
+    )?;
+    let counts = count_names(job);
+    refuse_first(
+        links,
+        |l| counts[l] != 1,
+        |l| ReadRefusal::NotNamedOnce(job.receiver_place(l) as u32),
+    )?;
+    refuse_first(
+        tasks,
+        |t| !time_in_range(job.time(t)),
+        |t| ReadRefusal::Refused(time_place(t) as u32, Refusal::TimeOutOfRange),
+    )
 }

@@ -3,10 +3,12 @@
 
 pub mod bytes;
 mod checks;
+mod job;
+pub mod layout;
 mod names;
 pub mod numbers;
-mod places;
 pub mod read;
 pub mod refusal;
 pub mod round_trips;
+mod tested;
 pub mod write;

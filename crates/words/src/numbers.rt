@@ -1,9 +1,10 @@
-// The numbers by which a reader's refusals are known outside.
-ghost use Rattle.std.specs.Prelude.{◌≡◌};
-ghost use Rattle.words.specs.Refusals.{number_of, place_of, below as lower};
+// The numbers by which a reader's refusals are known outside, and the text that is printed of them.
+ghost use Rattle.std.specs.Prelude.{◌≡◌, Some};
+ghost use Rattle.words.specs.Refusals.{number_of, place_of, below as lower, refusal_text};
 
 use crate::refusal::ReadRefusal;
 use graph::records::Refusal;
+use std::fmt;
 
 impl ReadRefusal {
     pub fn number(&self) -> u32
@@ -25,13 +26,12 @@ impl ReadRefusal {
         ensures { result ≡ place_of self.now }
     {
         match self {
-            ReadRefusal::TooFewWords(count) => *count as u64,
             ReadRefusal::WrongEdition => 0,
-            ReadRefusal::CountTooLarge(at) => *at as u64,
-            ReadRefusal::WrongLength(count) => *count as u64,
-            ReadRefusal::WrongPointer(at) => *at as u64,
-            ReadRefusal::NotNamedOnce(at) => *at as u64,
-            ReadRefusal::Refused(at, _) => *at as u64,
+            ReadRefusal::TooFewWords(count) | ReadRefusal::WrongLength(count) => *count as u64,
+            ReadRefusal::CountTooLarge(at)
+            | ReadRefusal::WrongPointer(at)
+            | ReadRefusal::NotNamedOnce(at)
+            | ReadRefusal::Refused(at, _) => u64::from(*at),
         }
     }
 
@@ -42,6 +42,24 @@ impl ReadRefusal {
         match self {
             ReadRefusal::Refused(_, why) => Some(*why),
             _ => None,
+        }
+    }
+}
+
+// Layer 2, the number and the place, and then what adding or linking would have said, which is of layer 1.
+impl fmt::Display for ReadRefusal {
+    ghost output = { λ why. Some (refusal_text why) };
+
+    fn fmt<W: fmt::Write>(&self, f: &mut fmt::Formatter<W>) -> fmt::Result {
+        let number = self.number();
+        let place = self.place();
+        match self.below() {
+            Some(why) => {
+                let number_below = why.number();
+                let place_below = why.place();
+                write!(f, "2 {number} {place} 1 {number_below} {place_below}")
+            }
+            None => write!(f, "2 {number} {place}"),
         }
     }
 }

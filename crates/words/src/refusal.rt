@@ -3,7 +3,7 @@ use graph::records::Refusal;
 
 // A number in a case is the place that the refusal names. `Refused` is what adding a task or linking two would have
 // said, and the word that is at fault.
-#[derive(Clone, Copy, PartialEq, Eq, Debug)]
+#[derive(Clone, Copy, Debug, PartialEq, Eq)]
 pub enum ReadRefusal {
     TooFewWords(usize),
     WrongEdition,

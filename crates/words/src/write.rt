@@ -1,41 +1,56 @@
 // Writing a graph as job words.
-ghost use Rattle.std.specs.Prelude.{◌≡◌, ◌+◌, ◌*◌, ◌≤◌, length};
+ghost use Rattle.std.specs.Prelude.{◌≡◌, ℕ, ◌+◌, ◌*◌, ◌≤◌, List, length, refl};
 ghost use Rattle.std.proofs.Math.Seq.{paste};
 ghost use Rattle.std.specs.List.{flat_map};
 ghost use Rattle.graph.specs.Of.{net_of};
 ghost use Rattle.words.specs.Words.{task_words, link_words, write_answer, written};
 ghost use Rattle.words.specs.RoundTrips.{ReadsBack};
 
+use crate::layout::{EDITION, word_count};
 use crate::round_trips::words_read_back;
 use graph::graph::Graph;
 use graph::records::{Link, Refusal, Task};
 
-const EDITION: u32 = 1;
+// A record that is written as W words.
+trait Written<const W: usize> {
+    ghost written: { Self → List ℕ };
 
-// Writes two words for each task, from a place on.
-fn put_tasks(tasks: &[Task], at: usize, out: &mut [u32])
-    requires few { length tasks.now ≤ 256 }
-    requires near { at ≤ 4096 }
-    requires room { at + 2 * length tasks.now ≤ length out.old }
-    ensures { out.new ≡ paste out.old at (flat_map task_words tasks.now) (2 * length tasks.now) }
-{
-    for (i, task) in tasks.iter().enumerate() {
-        out[at + 2 * i] = task.time;
-        out[at + 2 * i + 1] = task.newest;
+    fn words(&self) -> [u32; W]
+        ensures { result ≡ written self.now };
+
+    ghost wide: { (x : Self) → length (written x) ≡ W };
+}
+
+impl Written<2> for Task {
+    ghost written = { task_words };
+
+    ghost wide = { λ x. refl };
+
+    fn words(&self) -> [u32; 2] {
+        [self.time, self.newest]
     }
 }
 
-// Writes three words for each link, from a place on.
-fn put_links(links: &[Link], at: usize, out: &mut [u32])
-    requires few { length links.now ≤ 1024 }
+impl Written<3> for Link {
+    ghost written = { link_words };
+
+    ghost wide = { λ x. refl };
+
+    fn words(&self) -> [u32; 3] {
+        [self.receiver, self.size, self.next]
+    }
+}
+
+// Writes records one after another, from a place on.
+fn put_all<const W: usize, T: Written<W>>(records: &[T], at: usize, out: &mut [u32])
+    requires few { W * length records.now ≤ 4096 }
     requires near { at ≤ 4096 }
-    requires room { at + 3 * length links.now ≤ length out.old }
-    ensures { out.new ≡ paste out.old at (flat_map link_words links.now) (3 * length links.now) }
+    requires room { at + W * length records.now ≤ length out.old }
+    ensures { out.new ≡ paste out.old at (flat_map T.written records.now) (W * length records.now) }
 {
-    for (j, link) in links.iter().enumerate() {
-        out[at + 3 * j] = link.receiver;
-        out[at + 3 * j + 1] = link.size;
-        out[at + 3 * j + 2] = link.next;
+    for (i, record) in records.iter().enumerate() {
+        let from = at + W * i;
+        out[from..from + W].copy_from_slice(&record.words());
     }
 }
 
@@ -48,14 +63,12 @@ pub fn write_words(graph: &Graph, out: &mut [u32]) -> Result<u32, Refusal>
     words_read_back(graph);
     let tasks = graph.tasks();
     let links = graph.links();
-    let needed = 3 + 2 * tasks.len() + 3 * links.len();
+    let needed = word_count(tasks.len(), links.len());
     if out.len() < needed {
         return Err(Refusal::OutputTooShort(needed as u32));
     }
-    out[0] = EDITION;
-    out[1] = tasks.len() as u32;
-    out[2] = links.len() as u32;
-    put_tasks(tasks, 3, out);
-    put_links(links, 3 + 2 * tasks.len(), out);
+    out[..3].copy_from_slice(&[EDITION, tasks.len() as u32, links.len() as u32]);
+    put_all(tasks, 3, out);
+    put_all(links, 3 + 2 * tasks.len(), out);
     Ok(needed as u32)
 }

@@ -1,12 +1,11 @@
+use Rattle.std.proofs.Common.{◌+◌, ◌*◌, ◌≤◌, length, refl, arith}
+use Rattle.std.proofs.lemmas.Slice.{put_mid-paste}
 use Rattle.graph.specs.Of.{net_of}
-use Rattle.words.proofs.Pasting.{write_ok, write_done}
+use Rattle.words.proofs.Pasting.{write_done}
 use Rattle.words.proofs.write.write_words.Goals as goal
 
-pub returns : goal.returns
-returns c =
-    let net = net_of c.args.graph.now in
-    record {
-      value = write_ok net _ _ c.tasks-tasks.ensures c.links-links.ensures.value c.args.out.now c.if-out-needed.false;
-      after = write_done net _ _ c.tasks-tasks.ensures c.links-links.ensures.value c.args.out.now c.if-out-needed.false _ _ c.put_tasks.ensures c.put_links.ensures;
-      back = c.words_read_back.ensures;
-    }
+pub returns-clause-after : goal.returns-clause-after
+returns-clause-after c =
+    let header = put_mid-paste 0 3 c.args.out.now c.copy_from_slice.new.self _ 3 c.copy_from_slice.ensures.after refl refl in
+    let room : 3 + 2 * length c.tasks-tasks.result.now + 3 * length c.links-links.result.now ≤ length c.args.out.now = omega (arith, c.word_count-needed.ensures.value) in
+    write_done (net_of c.args.graph.now) _ _ c.tasks-tasks.ensures c.links-links.ensures.value c.args.out.now room _ _ _ header c.put_all.ensures c.put_all-2.ensures

@@ -2,9 +2,9 @@
 ghost use Rattle.std.specs.Prelude.{◌≡◌, Ok};
 ghost use Rattle.machine.specs.Examples.{unit_figures, CubeExample};
 
-use crate::cube::Cube;
 use crate::figures::Figures;
 use crate::machine::Machine;
+use crate::rack::Cube;
 use crate::refusal::MachineRefusal;
 use crate::waiting::Waiting;
 

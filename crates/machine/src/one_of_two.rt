@@ -1,16 +1,10 @@
-// A machine of one of two types.
-ghost use Rattle.machine.specs.Either.{either_model};
+// A machine of one of two types, so that one list can hold machines of both.
+ghost use Rattle.machine.specs.OneOfTwo.{either_model};
 ghost use Rattle.std.proofs.Common.{rules};
 
 use crate::machine::Machine;
 use crate::refusal::MachineRefusal;
-
-// One of the two, so that one list can hold machines of both types.
-#[derive(Clone, Copy, Drop)]
-pub enum Either<L, R> {
-    Left(L),
-    Right(R),
-}
+use either::Either;
 
 impl<L: Machine, R: Machine> Machine for Either<L, R> {
     ghost meaning = { λ e. either_model L.Machine.meaning R.Machine.meaning e };

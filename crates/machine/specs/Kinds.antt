@@ -44,6 +44,14 @@ cube_steps a b = count_ones (bit_xor a b)
 abbrev pub rack_delay : (ℕ → ℕ → ℕ) → Figures → ℕ → ℕ → ℕ → ℕ
 rack_delay steps f a b s = step_delay f s * steps a b
 
+-- one step between any two different processors
+abbrev pub bus_delay : Figures → ℕ → ℕ → ℕ → ℕ
+bus_delay f a b s = rack_delay bus_steps f a b s
+
+-- a step for each bit in which the two processor numbers differ
+abbrev pub cube_delay : Figures → ℕ → ℕ → ℕ → ℕ
+cube_delay f a b s = rack_delay cube_steps f a b s
+
 -- a rack of p processors with these steps between them, and all times by its figures
 abbrev pub rack_model : (ℕ → ℕ → ℕ) → ℕ → Figures → Model
 rack_model steps p f = record {

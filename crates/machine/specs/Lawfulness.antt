@@ -8,7 +8,7 @@ use Rattle.std.proofs.lemmas.Bool.{eq-eqb, cond_both, cond-true}
 use Rattle.std.proofs.lemmas.Bool.Decides.{nat_tests}
 use Rattle.machine.specs.declared.figures.Figures.{Figures}
 use Rattle.machine.specs.Figures.{fitting, linear, step_delay}
-use Rattle.machine.specs.Kinds.{KindLaws, bus_allows, bus_steps, cube_allows, cube_steps, rack_delay, rack_model}
+use Rattle.machine.specs.Kinds.{KindLaws, bus_allows, bus_delay, bus_steps, cube_allows, cube_steps, rack_delay, rack_model}
 use Rattle.machine.specs.Model.{Lawful}
 
 -- each figure is within its limit
@@ -69,8 +69,8 @@ bus_laws = record {
 }
 
 -- the delay between two different processors of a bus is that of one step
-pub bus_delay : (f : Figures) (a b s : ℕ) → rack_delay bus_steps f a b s ≡ cond (a == b) 0 (step_delay f s)
-bus_delay f a b s = grind (arith, nat_tests)
+pub bus_step : (f : Figures) (a b s : ℕ) → bus_delay f a b s ≡ cond (a == b) 0 (step_delay f s)
+bus_step f a b s = grind (arith, nat_tests)
 
 cube_few : (p : ℕ) → cube_allows p ≡ true → p ≤ 32
 cube_few p ok = grind (arith, nat_tests)

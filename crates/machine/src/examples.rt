@@ -20,11 +20,7 @@ fn unit_figures() -> Figures
     Figures {
         delay_base: 1,
         delay_unit: 1,
-        startup: 0,
-        reading_base: 0,
-        reading_unit: 0,
-        writing_base: 0,
-        writing_unit: 0,
+        ..Figures::default()
     }
 }
 

@@ -7,7 +7,7 @@ use crate::machine::check_size;
 use crate::refusal::MachineRefusal;
 
 // A time is its base, and its unit for each unit of a size.
-#[derive(Clone, Copy)]
+#[derive(Clone, Copy, Debug, Default, PartialEq, Eq)]
 pub struct Figures {
     pub delay_base: u32,
     pub delay_unit: u32,
@@ -36,23 +36,18 @@ impl Figures {
     pub(crate) fn first_too_large(&self) -> Option<u32>
         ensures { result ≡ first_large self.now }
     {
-        if self.delay_base > LARGEST_BASE {
-            Some(1)
-        } else if self.delay_unit > LARGEST_UNIT {
-            Some(2)
-        } else if self.startup > LONGEST_STARTUP {
-            Some(3)
-        } else if self.reading_base > LARGEST_BASE {
-            Some(4)
-        } else if self.reading_unit > LARGEST_UNIT {
-            Some(5)
-        } else if self.writing_base > LARGEST_BASE {
-            Some(6)
-        } else if self.writing_unit > LARGEST_UNIT {
-            Some(7)
-        } else {
-            None
-        }
+        [
+            (1, self.delay_base, LARGEST_BASE),
+            (2, self.delay_unit, LARGEST_UNIT),
+            (3, self.startup, LONGEST_STARTUP),
+            (4, self.reading_base, LARGEST_BASE),
+            (5, self.reading_unit, LARGEST_UNIT),
+            (6, self.writing_base, LARGEST_BASE),
+            (7, self.writing_unit, LARGEST_UNIT),
+        ]
+        .iter()
+        .find(|(_, figure, limit)| figure > limit)
+        .map(|(place, _, _)| *place)
     }
 
     // The delay of one step between processors.

@@ -31,6 +31,14 @@ fn linear_time(base: u32, unit: u32, size: u32) -> u64
     u64::from(base) + u64::from(unit) * u64::from(size)
 }
 
+// The time at a size that is within its limit.
+fn sized_time(base: u32, unit: u32, size: u32) -> Result<u64, MachineRefusal>
+    ensures { result ≡ sized size (linear base unit size) }
+{
+    check_size(size)?;
+    Ok(linear_time(base, unit, size))
+}
+
 impl Figures {
     // The place of the first figure above its limit, from 1.
     pub(crate) fn first_too_large(&self) -> Option<u32>
@@ -60,14 +68,12 @@ impl Figures {
     pub(crate) fn reading_time(&self, size: u32) -> Result<u64, MachineRefusal>
         ensures { result ≡ sized size (reading_time self.now size) }
     {
-        check_size(size)?;
-        Ok(linear_time(self.reading_base, self.reading_unit, size))
+        sized_time(self.reading_base, self.reading_unit, size)
     }
 
     pub(crate) fn writing_time(&self, size: u32) -> Result<u64, MachineRefusal>
         ensures { result ≡ sized size (writing_time self.now size) }
     {
-        check_size(size)?;
-        Ok(linear_time(self.writing_base, self.writing_unit, size))
+        sized_time(self.writing_base, self.writing_unit, size)
     }
 }

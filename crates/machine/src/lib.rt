@@ -17,7 +17,7 @@ pub use crate::examples::cube_example;
 pub use crate::figures::Figures;
 pub use crate::greatest::greatest_delay;
 pub use crate::kind::{BusKind, CubeKind, Kind};
-pub use crate::machine::Machine;
+pub use crate::machine::{LARGEST_SIZE, Machine, check_question, check_size};
 pub use crate::rack::{Bus, Cube, Rack};
 pub use crate::refusal::MachineRefusal;
 pub use crate::same::answer_alike;

@@ -1,34 +1,27 @@
 // Each refusal, and which comes first.
-use crate::figures::{NONE, SMALL};
+use crate::figures::SMALL;
 use machine::{Bus, Cube, Figures, Machine, MachineRefusal};
 use std::test::Fail;
 
 // The seven figures in their order.
 fn in_order(numbers: [u32; 7]) -> Figures {
+    let [
+        delay_base,
+        delay_unit,
+        startup,
+        reading_base,
+        reading_unit,
+        writing_base,
+        writing_unit,
+    ] = numbers;
     Figures {
-        delay_base: numbers[0],
-        delay_unit: numbers[1],
-        startup: numbers[2],
-        reading_base: numbers[3],
-        reading_unit: numbers[4],
-        writing_base: numbers[5],
-        writing_unit: numbers[6],
-    }
-}
-
-// Why there is no such bus.
-fn no_bus(processors: u32, figures: Figures) -> Option<MachineRefusal> {
-    match Bus::new(processors, figures) {
-        Ok(_) => None,
-        Err(why) => Some(why),
-    }
-}
-
-// Why there is no such cube.
-fn no_cube(processors: u32, figures: Figures) -> Option<MachineRefusal> {
-    match Cube::new(processors, figures) {
-        Ok(_) => None,
-        Err(why) => Some(why),
+        delay_base,
+        delay_unit,
+        startup,
+        reading_base,
+        reading_unit,
+        writing_base,
+        writing_unit,
     }
 }
 
@@ -84,15 +77,30 @@ fn a_large_size_is_refused(rt: HostRuntime) -> Result<(), Fail> {
 fn a_number_of_processors_is_refused_first(rt: HostRuntime) {
     let large = Figures {
         delay_base: 10_001,
-        ..NONE
+        ..Figures::default()
     };
-    assert_eq!(rt; no_bus(0, large), Some(MachineRefusal::ProcessorCount(0)));
-    assert_eq!(rt; no_bus(33, NONE), Some(MachineRefusal::ProcessorCount(33)));
-    assert_eq!(rt; no_bus(31, NONE), None);
-    assert_eq!(rt; no_cube(0, NONE), Some(MachineRefusal::ProcessorCount(0)));
-    assert_eq!(rt; no_cube(3, large), Some(MachineRefusal::ProcessorCount(3)));
-    assert_eq!(rt; no_cube(64, NONE), Some(MachineRefusal::ProcessorCount(64)));
-    assert_eq!(rt; no_cube(16, NONE), None);
+    assert_eq!(rt;
+        Bus::new(0, large).err(),
+        Some(MachineRefusal::ProcessorCount(0))
+    );
+    assert_eq!(rt;
+        Bus::new(33, Figures::default()).err(),
+        Some(MachineRefusal::ProcessorCount(33))
+    );
+    assert_eq!(rt; Bus::new(31, Figures::default()).err(), None);
+    assert_eq!(rt;
+        Cube::new(0, Figures::default()).err(),
+        Some(MachineRefusal::ProcessorCount(0))
+    );
+    assert_eq!(rt;
+        Cube::new(3, large).err(),
+        Some(MachineRefusal::ProcessorCount(3))
+    );
+    assert_eq!(rt;
+        Cube::new(64, Figures::default()).err(),
+        Some(MachineRefusal::ProcessorCount(64))
+    );
+    assert_eq!(rt; Cube::new(16, Figures::default()).err(), None);
 }
 
 #[test]
@@ -109,11 +117,11 @@ fn the_first_large_figure_is_refused(rt: HostRuntime) {
     for (place, numbers) in cases {
         let figures = in_order(numbers);
         assert_eq!(rt;
-            no_bus(2, figures),
+            Bus::new(2, figures).err(),
             Some(MachineRefusal::FigureTooLarge(place))
         );
         assert_eq!(rt;
-            no_cube(2, figures),
+            Cube::new(2, figures).err(),
             Some(MachineRefusal::FigureTooLarge(place))
         );
     }

@@ -19,10 +19,11 @@ const LONGEST_DELAY: u64 = 1_000_000_000;
 
 // A delay between different processors, with the wait.
 fn longer(delay: u64, wait: u32) -> u64
-    requires { delay ≤ LONGEST_DELAY }
     ensures { result ≡ lengthened wait delay }
 {
-    (delay + u64::from(wait.min(LONGEST_WAIT))).min(LONGEST_DELAY)
+    delay
+        .saturating_add(u64::from(wait.min(LONGEST_WAIT)))
+        .min(LONGEST_DELAY)
 }
 
 impl<M: Machine> Machine for Waiting<M> {

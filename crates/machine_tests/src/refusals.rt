@@ -5,23 +5,14 @@ use std::test::Fail;
 
 // The seven figures in their order.
 fn in_order(numbers: [u32; 7]) -> Figures {
-    let [
-        delay_base,
-        delay_unit,
-        startup,
-        reading_base,
-        reading_unit,
-        writing_base,
-        writing_unit,
-    ] = numbers;
     Figures {
-        delay_base,
-        delay_unit,
-        startup,
-        reading_base,
-        reading_unit,
-        writing_base,
-        writing_unit,
+        delay_base: numbers[0],
+        delay_unit: numbers[1],
+        startup: numbers[2],
+        reading_base: numbers[3],
+        reading_unit: numbers[4],
+        writing_base: numbers[5],
+        writing_unit: numbers[6],
     }
 }
 

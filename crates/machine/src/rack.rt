@@ -11,6 +11,7 @@ use crate::refusal::MachineRefusal;
 use std::alloc::AllocError;
 use std::marker::PhantomData;
 
+#[derive_where(Debug, PartialEq, Eq)]
 pub struct Rack<K: Kind> {
     processors: u32,
     figures: Figures,
@@ -19,6 +20,13 @@ pub struct Rack<K: Kind> {
     ghost fit: { fitting figures ≡ true },
 }
 
+// A bus: the same delay between any two different processors.
+pub type Bus = Rack<BusKind>;
+
+// A cube: a delay for each bit in which two processor numbers differ.
+pub type Cube = Rack<CubeKind>;
+
+// By hand, since Clone cannot be derived on a struct with a parameter and a ghost field.
 impl<K: Kind> Clone for Rack<K> {
     ghost is_clone = { λ x y. y ≡ x };
 
@@ -30,12 +38,6 @@ impl<K: Kind> Clone for Rack<K> {
 }
 
 impl<K: Kind> Copy for Rack<K> {}
-
-// A bus: the same delay between any two different processors.
-pub type Bus = Rack<BusKind>;
-
-// A cube: a delay for each bit in which two processor numbers differ.
-pub type Cube = Rack<CubeKind>;
 
 impl<K: Kind> Rack<K> {
     // A rack of so many processors with these figures.

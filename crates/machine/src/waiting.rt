@@ -7,7 +7,7 @@ use crate::machine::Machine;
 use crate::refusal::MachineRefusal;
 
 // The machine below, and the wait.
-#[derive(Clone, Copy, Drop)]
+#[derive(Clone, Copy, Debug, PartialEq, Eq, Drop)]
 pub struct Waiting<M> {
     pub below: M,
     pub wait: u32,
@@ -43,6 +43,7 @@ impl<M: Machine> Machine for Waiting<M> {
         Ok(longer(delay, self.wait))
     }
 
+    // What a layer does not change it hands on, in one line each: a shared form would be no shorter.
     fn startup(&self) -> u64 {
         self.below.startup()
     }

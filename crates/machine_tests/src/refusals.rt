@@ -135,3 +135,12 @@ fn refusals_have_numbers_and_places(rt: HostRuntime) {
         (3, 28, 7)
     );
 }
+
+#[test]
+fn a_refusal_is_shown(rt: HostRuntime) -> Result<(), Fail> {
+    let figure = MachineRefusal::FigureTooLarge(7);
+    assert_eq!(rt; figure.to_string(rt.alloc())?.as_str(), "3 28 7");
+    let size = MachineRefusal::SizeTooLarge;
+    assert_eq!(rt; size.to_string(rt.alloc())?.as_str(), "3 26 0");
+    Ok(())
+}

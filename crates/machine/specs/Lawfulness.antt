@@ -8,7 +8,7 @@ use Rattle.std.proofs.lemmas.Bool.{eq-eqb, cond_both, cond-true}
 use Rattle.std.proofs.lemmas.Bool.Decides.{nat_tests}
 use Rattle.machine.specs.declared.figures.Figures.{Figures}
 use Rattle.machine.specs.Figures.{fitting, linear, step_delay}
-use Rattle.machine.specs.Kinds.{KindLaws, bus_allows, bus_delay, bus_steps, cube_allows, cube_steps, rack_delay, rack_model}
+use Rattle.machine.specs.Kinds.{KindLaws, bus_allows, bus_delay, bus_model, bus_steps, cube_allows, cube_delay, cube_model, cube_steps, rack_delay, rack_model}
 use Rattle.machine.specs.Model.{Lawful}
 
 -- each figure is within its limit
@@ -68,16 +68,19 @@ bus_laws = record {
   near = λ p a b _ _ _. bus_near a b;
 }
 
+pub bus_lawful : (p : ℕ) (f : Figures) → bus_allows p ≡ true → fitting f ≡ true → Lawful (bus_model p f)
+bus_lawful p f ok e = rack_lawful bus_allows bus_steps bus_laws p f ok e
+
 -- the delay between two different processors of a bus is that of one step
 pub bus_step : (f : Figures) (a b s : ℕ) → bus_delay f a b s ≡ cond (a == b) 0 (step_delay f s)
 bus_step f a b s = grind (arith, nat_tests)
 
-cube_few : (p : ℕ) → cube_allows p ≡ true → p ≤ 32
+pub cube_few : (p : ℕ) → cube_allows p ≡ true → p ≤ 32
 cube_few p ok = grind (arith, nat_tests)
 
 -- two processors of a cube differ in five bits at most
-cube_near : (p a b : ℕ) → cube_allows p ≡ true → a < p → b < p → ones (bit_xor a b) ≤ 5
-cube_near p a b ok ha hb =
+pub differing_le : (a b p : ℕ) → cube_allows p ≡ true → a < p → b < p → ones (bit_xor a b) ≤ 5
+differing_le a b p ok ha hb =
     let hp = cube_few p ok in ones-le 5 (bit_xor a b) (xor_lt 5 a b (omega arith) (omega arith))
 
 differing_self : (a : ℕ) → ones (bit_xor a a) ≡ 0
@@ -89,5 +92,11 @@ cube_laws = record {
   some = λ p ok. grind (arith, nat_tests);
   few = λ p ok. cube_few p ok;
   still = λ q. differing_self q;
-  near = λ p a b ok ha hb. cube_near p a b ok ha hb;
+  near = λ p a b ok ha hb. differing_le a b p ok ha hb;
 }
+
+pub cube_near : (p : ℕ) (f : Figures) (a b s : ℕ) → cube_allows p ≡ true → fitting f ≡ true → a < p → b < p → s ≤ 1000000 → cube_delay f a b s ≤ 1000000000
+cube_near p f a b s ok e ha hb hs = rack_near cube_steps f a b s e hs (differing_le a b p ok ha hb)
+
+pub cube_lawful : (p : ℕ) (f : Figures) → cube_allows p ≡ true → fitting f ≡ true → Lawful (cube_model p f)
+cube_lawful p f ok e = rack_lawful cube_allows cube_steps cube_laws p f ok e

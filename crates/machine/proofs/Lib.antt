@@ -1,3 +1,4 @@
 pub mod Answered
+pub mod Pairs
 pub mod Sameness
 pub mod Worked

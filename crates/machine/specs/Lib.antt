@@ -3,7 +3,7 @@ pub mod Model
 pub mod Figures
 pub mod Kinds
 pub mod Layers
-pub mod Either
+pub mod OneOfTwo
 pub mod Greatest
 pub mod Same
 pub mod Examples

@@ -1,14 +1,11 @@
--- The layer, the number and the place of each refusal of a machine, case by case. Assumes nothing.
-use Rattle.std.specs.Prelude.{ℕ}
+-- The layer, the number and the place of each refusal of a machine, case by case, and what it prints. Assumes nothing.
+use Rattle.std.specs.Prelude.{ℕ, List, ◌++◌, codes, decimal}
 use Rattle.machine.specs.declared.refusal.MachineRefusal.{MachineRefusal}
 use Rattle.machine.specs.declared.refusal.MachineRefusal.TheVariants.{NoSuchProcessor, SizeTooLarge, ProcessorCount, FigureTooLarge}
 
 -- machines are the third layer
 abbrev pub layer_of : MachineRefusal → ℕ
-layer_of (NoSuchProcessor processor) = 3
-layer_of SizeTooLarge = 3
-layer_of (ProcessorCount processors) = 3
-layer_of (FigureTooLarge figure) = 3
+layer_of why = 3
 
 abbrev pub number_of : MachineRefusal → ℕ
 number_of (NoSuchProcessor processor) = 25
@@ -22,3 +19,7 @@ place_of (NoSuchProcessor processor) = processor
 place_of SizeTooLarge = 0
 place_of (ProcessorCount processors) = processors
 place_of (FigureTooLarge figure) = figure
+
+-- what a refusal prints: its layer, its number and its place, with single spaces
+abbrev pub text_of : MachineRefusal → List ℕ
+text_of why = decimal (layer_of why) ++ codes " " ++ decimal (number_of why) ++ codes " " ++ decimal (place_of why)

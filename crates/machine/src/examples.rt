@@ -2,9 +2,9 @@
 ghost use Rattle.std.specs.Prelude.{◌≡◌, Ok};
 ghost use Rattle.machine.specs.Examples.{unit_figures, CubeExample};
 
-use crate::cube::Cube;
 use crate::figures::Figures;
 use crate::machine::Machine;
+use crate::rack::Cube;
 use crate::refusal::MachineRefusal;
 use crate::waiting::Waiting;
 
@@ -20,11 +20,7 @@ fn unit_figures() -> Figures
     Figures {
         delay_base: 1,
         delay_unit: 1,
-        startup: 0,
-        reading_base: 0,
-        reading_unit: 0,
-        writing_base: 0,
-        writing_unit: 0,
+        ..Figures::default()
     }
 }
 

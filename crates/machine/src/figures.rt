@@ -7,7 +7,7 @@ use crate::machine::check_size;
 use crate::refusal::MachineRefusal;
 
 // A time is its base, and its unit for each unit of a size.
-#[derive(Clone, Copy)]
+#[derive(Clone, Copy, Debug, Default, PartialEq, Eq)]
 pub struct Figures {
     pub delay_base: u32,
     pub delay_unit: u32,
@@ -31,28 +31,31 @@ fn linear_time(base: u32, unit: u32, size: u32) -> u64
     u64::from(base) + u64::from(unit) * u64::from(size)
 }
 
+// The time at a size that is within its limit.
+fn sized_time(base: u32, unit: u32, size: u32) -> Result<u64, MachineRefusal>
+    ensures { result ≡ sized size (linear base unit size) }
+{
+    check_size(size)?;
+    Ok(linear_time(base, unit, size))
+}
+
 impl Figures {
     // The place of the first figure above its limit, from 1.
     pub(crate) fn first_too_large(&self) -> Option<u32>
         ensures { result ≡ first_large self.now }
     {
-        if self.delay_base > LARGEST_BASE {
-            Some(1)
-        } else if self.delay_unit > LARGEST_UNIT {
-            Some(2)
-        } else if self.startup > LONGEST_STARTUP {
-            Some(3)
-        } else if self.reading_base > LARGEST_BASE {
-            Some(4)
-        } else if self.reading_unit > LARGEST_UNIT {
-            Some(5)
-        } else if self.writing_base > LARGEST_BASE {
-            Some(6)
-        } else if self.writing_unit > LARGEST_UNIT {
-            Some(7)
-        } else {
-            None
-        }
+        [
+            (1, self.delay_base, LARGEST_BASE),
+            (2, self.delay_unit, LARGEST_UNIT),
+            (3, self.startup, LONGEST_STARTUP),
+            (4, self.reading_base, LARGEST_BASE),
+            (5, self.reading_unit, LARGEST_UNIT),
+            (6, self.writing_base, LARGEST_BASE),
+            (7, self.writing_unit, LARGEST_UNIT),
+        ]
+        .iter()
+        .find(|(_, figure, limit)| figure > limit)
+        .map(|(place, _, _)| *place)
     }
 
     // The delay of one step between processors.
@@ -65,14 +68,12 @@ impl Figures {
     pub(crate) fn reading_time(&self, size: u32) -> Result<u64, MachineRefusal>
         ensures { result ≡ sized size (reading_time self.now size) }
     {
-        check_size(size)?;
-        Ok(linear_time(self.reading_base, self.reading_unit, size))
+        sized_time(self.reading_base, self.reading_unit, size)
     }
 
     pub(crate) fn writing_time(&self, size: u32) -> Result<u64, MachineRefusal>
         ensures { result ≡ sized size (writing_time self.now size) }
     {
-        check_size(size)?;
-        Ok(linear_time(self.writing_base, self.writing_unit, size))
+        sized_time(self.writing_base, self.writing_unit, size)
     }
 }

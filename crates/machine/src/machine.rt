@@ -5,7 +5,7 @@ ghost use Rattle.machine.specs.Model.{Model, Lawful, asked, sized, delay_answer,
 use crate::refusal::MachineRefusal;
 
 // The largest size that a machine answers for.
-pub(crate) const LARGEST_SIZE: u32 = 1_000_000;
+pub const LARGEST_SIZE: u32 = 1_000_000;
 
 pub trait Machine {
     // What the machine means: every answer is a function of it, so the same question has the same answer each time.
@@ -36,7 +36,7 @@ pub trait Machine {
 }
 
 // Whether a machine answers for this size.
-pub(crate) fn check_size(size: u32) -> Result<(), MachineRefusal>
+pub fn check_size(size: u32) -> Result<(), MachineRefusal>
     ensures { result ≡ sized size tt }
 {
     if size > LARGEST_SIZE {
@@ -46,12 +46,7 @@ pub(crate) fn check_size(size: u32) -> Result<(), MachineRefusal>
 }
 
 // Whether a machine of so many processors answers for these two and this size.
-pub(crate) fn check_question(
-    processors: u32,
-    from: u32,
-    to: u32,
-    size: u32,
-) -> Result<(), MachineRefusal>
+pub fn check_question(processors: u32, from: u32, to: u32, size: u32) -> Result<(), MachineRefusal>
     ensures { result ≡ asked processors from to size tt }
 {
     if from >= processors {

@@ -1,6 +1,8 @@
 // Why a machine refuses a question, or refuses to be made.
-ghost use Rattle.std.specs.Prelude.{◌≡◌};
-ghost use Rattle.machine.specs.Refusals.{layer_of, number_of, place_of};
+ghost use Rattle.std.specs.Prelude.{◌≡◌, Some};
+ghost use Rattle.machine.specs.Refusals.{layer_of, number_of, place_of, text_of};
+
+use std::fmt;
 
 #[derive(Clone, Copy, PartialEq, Eq, Debug)]
 pub enum MachineRefusal {
@@ -39,10 +41,19 @@ impl MachineRefusal {
         ensures { result ≡ place_of self.now }
     {
         match self {
-            MachineRefusal::NoSuchProcessor(processor) => *processor,
+            MachineRefusal::NoSuchProcessor(place)
+            | MachineRefusal::ProcessorCount(place)
+            | MachineRefusal::FigureTooLarge(place) => *place,
             MachineRefusal::SizeTooLarge => 0,
-            MachineRefusal::ProcessorCount(processors) => *processors,
-            MachineRefusal::FigureTooLarge(place) => *place,
         }
+    }
+}
+
+// The layer, the number and the place.
+impl fmt::Display for MachineRefusal {
+    ghost output = { λ why. Some (text_of why) };
+
+    fn fmt<W: fmt::Write>(&self, f: &mut fmt::Formatter<W>) -> fmt::Result {
+        write!(f, "{} {} {}", self.layer(), self.number(), self.place())
     }
 }

@@ -7,7 +7,7 @@ use crate::machine::Machine;
 use crate::refusal::MachineRefusal;
 
 // The machine below, and the wait.
-#[derive(Clone, Copy, Drop)]
+#[derive(Clone, Copy, Debug, PartialEq, Eq, Drop)]
 pub struct Waiting<M> {
     pub below: M,
     pub wait: u32,
@@ -19,10 +19,11 @@ const LONGEST_DELAY: u64 = 1_000_000_000;
 
 // A delay between different processors, with the wait.
 fn longer(delay: u64, wait: u32) -> u64
-    requires { delay ≤ 1000000000 }
     ensures { result ≡ lengthened wait delay }
 {
-    (delay + u64::from(wait.min(LONGEST_WAIT))).min(LONGEST_DELAY)
+    delay
+        .saturating_add(u64::from(wait.min(LONGEST_WAIT)))
+        .min(LONGEST_DELAY)
 }
 
 impl<M: Machine> Machine for Waiting<M> {
@@ -42,6 +43,7 @@ impl<M: Machine> Machine for Waiting<M> {
         Ok(longer(delay, self.wait))
     }
 
+    // What a layer does not change it hands on, in one line each: a shared form would be no shorter.
     fn startup(&self) -> u64 {
         self.below.startup()
     }

@@ -7,7 +7,7 @@ use crate::machine::{Machine, check_question};
 use crate::refusal::MachineRefusal;
 
 // The machine below, and the processor of it that is hidden.
-#[derive(Clone, Copy, Drop)]
+#[derive(Clone, Copy, Debug, PartialEq, Eq, Drop)]
 pub struct Withholding<M> {
     pub below: M,
     pub hidden: u32,
@@ -54,6 +54,7 @@ impl<M: Machine> Machine for Withholding<M> {
         self.below.delay(self.lower(from), self.lower(to), size)
     }
 
+    // What a layer does not change it hands on, in one line each: a shared form would be no shorter.
     fn startup(&self) -> u64 {
         self.below.startup()
     }

@@ -3,7 +3,7 @@ ghost use Rattle.std.specs.Prelude.{◌≡◌};
 ghost use Rattle.machine_tests.specs.Distant.{distant};
 ghost use Rattle.std.proofs.Common.{rules};
 
-use machine::{Machine, MachineRefusal};
+use machine::{Machine, MachineRefusal, check_question, check_size};
 
 // Two processors, far apart.
 #[derive(Clone, Copy)]
@@ -19,17 +19,8 @@ impl Machine for Distant {
     }
 
     fn delay(&self, from: u32, to: u32, size: u32) -> Result<u64, MachineRefusal> {
-        if from > 1 {
-            Err(MachineRefusal::NoSuchProcessor(from))
-        } else if to > 1 {
-            Err(MachineRefusal::NoSuchProcessor(to))
-        } else if size > 1_000_000 {
-            Err(MachineRefusal::SizeTooLarge)
-        } else if from == to {
-            Ok(0)
-        } else {
-            Ok(999_999_998)
-        }
+        check_question(2, from, to, size)?;
+        Ok(if from == to { 0 } else { 999_999_998 })
     }
 
     fn startup(&self) -> u64 {
@@ -37,18 +28,12 @@ impl Machine for Distant {
     }
 
     fn reading(&self, size: u32) -> Result<u64, MachineRefusal> {
-        if size > 1_000_000 {
-            Err(MachineRefusal::SizeTooLarge)
-        } else {
-            Ok(0)
-        }
+        check_size(size)?;
+        Ok(0)
     }
 
     fn writing(&self, size: u32) -> Result<u64, MachineRefusal> {
-        if size > 1_000_000 {
-            Err(MachineRefusal::SizeTooLarge)
-        } else {
-            Ok(0)
-        }
+        check_size(size)?;
+        Ok(0)
     }
 }

@@ -1,16 +1,6 @@
 // Figures for the tests.
 use machine::Figures;
 
-pub const NONE: Figures = Figures {
-    delay_base: 0,
-    delay_unit: 0,
-    startup: 0,
-    reading_base: 0,
-    reading_unit: 0,
-    writing_base: 0,
-    writing_unit: 0,
-};
-
 // A delay of 1 + size, and all other figures different.
 pub const SMALL: Figures = Figures {
     delay_base: 1,

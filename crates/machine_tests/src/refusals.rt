@@ -1,5 +1,5 @@
 // Each refusal, and which comes first.
-use crate::figures::{NONE, SMALL};
+use crate::figures::SMALL;
 use machine::{Bus, Cube, Figures, Machine, MachineRefusal};
 use std::test::Fail;
 
@@ -13,22 +13,6 @@ fn in_order(numbers: [u32; 7]) -> Figures {
         reading_unit: numbers[4],
         writing_base: numbers[5],
         writing_unit: numbers[6],
-    }
-}
-
-// Why there is no such bus.
-fn no_bus(processors: u32, figures: Figures) -> Option<MachineRefusal> {
-    match Bus::new(processors, figures) {
-        Ok(_) => None,
-        Err(why) => Some(why),
-    }
-}
-
-// Why there is no such cube.
-fn no_cube(processors: u32, figures: Figures) -> Option<MachineRefusal> {
-    match Cube::new(processors, figures) {
-        Ok(_) => None,
-        Err(why) => Some(why),
     }
 }
 
@@ -84,15 +68,30 @@ fn a_large_size_is_refused(rt: HostRuntime) -> Result<(), Fail> {
 fn a_number_of_processors_is_refused_first(rt: HostRuntime) {
     let large = Figures {
         delay_base: 10_001,
-        ..NONE
+        ..Figures::default()
     };
-    assert_eq!(rt; no_bus(0, large), Some(MachineRefusal::ProcessorCount(0)));
-    assert_eq!(rt; no_bus(33, NONE), Some(MachineRefusal::ProcessorCount(33)));
-    assert_eq!(rt; no_bus(31, NONE), None);
-    assert_eq!(rt; no_cube(0, NONE), Some(MachineRefusal::ProcessorCount(0)));
-    assert_eq!(rt; no_cube(3, large), Some(MachineRefusal::ProcessorCount(3)));
-    assert_eq!(rt; no_cube(64, NONE), Some(MachineRefusal::ProcessorCount(64)));
-    assert_eq!(rt; no_cube(16, NONE), None);
+    assert_eq!(rt;
+        Bus::new(0, large).err(),
+        Some(MachineRefusal::ProcessorCount(0))
+    );
+    assert_eq!(rt;
+        Bus::new(33, Figures::default()).err(),
+        Some(MachineRefusal::ProcessorCount(33))
+    );
+    assert_eq!(rt; Bus::new(31, Figures::default()).err(), None);
+    assert_eq!(rt;
+        Cube::new(0, Figures::default()).err(),
+        Some(MachineRefusal::ProcessorCount(0))
+    );
+    assert_eq!(rt;
+        Cube::new(3, large).err(),
+        Some(MachineRefusal::ProcessorCount(3))
+    );
+    assert_eq!(rt;
+        Cube::new(64, Figures::default()).err(),
+        Some(MachineRefusal::ProcessorCount(64))
+    );
+    assert_eq!(rt; Cube::new(16, Figures::default()).err(), None);
 }
 
 #[test]
@@ -109,11 +108,11 @@ fn the_first_large_figure_is_refused(rt: HostRuntime) {
     for (place, numbers) in cases {
         let figures = in_order(numbers);
         assert_eq!(rt;
-            no_bus(2, figures),
+            Bus::new(2, figures).err(),
             Some(MachineRefusal::FigureTooLarge(place))
         );
         assert_eq!(rt;
-            no_cube(2, figures),
+            Cube::new(2, figures).err(),
             Some(MachineRefusal::FigureTooLarge(place))
         );
     }
@@ -135,4 +134,13 @@ fn refusals_have_numbers_and_places(rt: HostRuntime) {
         (figure.layer(), figure.number(), figure.place()),
         (3, 28, 7)
     );
+}
+
+#[test]
+fn a_refusal_is_shown(rt: HostRuntime) -> Result<(), Fail> {
+    let figure = MachineRefusal::FigureTooLarge(7);
+    assert_eq!(rt; figure.to_string(rt.alloc())?.as_str(), "3 28 7");
+    let size = MachineRefusal::SizeTooLarge;
+    assert_eq!(rt; size.to_string(rt.alloc())?.as_str(), "3 26 0");
+    Ok(())
 }

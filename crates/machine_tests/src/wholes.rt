@@ -1,7 +1,8 @@
 // What is asked of whole machines, and lists of machines of different types.
-use crate::figures::{NONE, SMALL};
+use crate::figures::SMALL;
 use machine::{
-    Bus, Cube, Either, Machine, MachineRefusal, Waiting, Withholding, answer_alike, greatest_delay,
+    Bus, Cube, Either, Figures, Machine, MachineRefusal, Waiting, Withholding, answer_alike,
+    greatest_delay,
 };
 use std::test::Fail;
 
@@ -92,7 +93,7 @@ fn machines_answer_alike(rt: HostRuntime) -> Result<(), Fail> {
             7,
         )
     );
-    assert!(rt; !answer_alike(&bus, &Bus::new(2, NONE)?, 1, 1, 7));
+    assert!(rt; !answer_alike(&bus, &Bus::new(2, Figures::default())?, 1, 1, 7));
     Ok(())
 }
 

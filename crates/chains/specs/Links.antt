@@ -1,5 +1,5 @@
 -- How the code finds the messages of a sender: not what a chain is, but what its tables hold.
-use Rattle.std.specs.Prelude.{◌≡◌, ℕ, zero, suc, ◌<◌, cond, List, length, ◌==◌, slice_index, slice_index_or}
+use Rattle.std.specs.Prelude.{◌≡◌, ℕ, zero, suc, ◌<◌, cond, List, length, Option, None, Some, ◌==◌, slice_index, slice_index_or}
 use Rattle.chains.specs.Chains.{Blocks, Once, place}
 use Rattle.chains.specs.Lists.{In}
 use Rattle.chains.specs.declared.message.Message.{Message}
@@ -17,13 +17,19 @@ pub record Linked (ms : List Message) (head next : List ℕ) : Type 0 where
   pub heads : (b : ℕ) → b < 257 → slice_index head b ≡ latest ms b (length ms)
   pub nexts : (i : ℕ) → i < length ms → slice_index next i ≡ latest ms (message_at ms i).from i
 
--- an order whose blocks are good, with the table of their places counted from 1, and 0 for each number without a place
-pub record Numbered (order places : List ℕ) : Type 0 where
+-- an order whose blocks are good, with the table of their places, and nothing at each number without a place
+pub record Numbered (order : List ℕ) (places : List (Option ℕ)) : Type 0 where
   pub blocks : Blocks order
   pub once : Once order
-  pub present : (b : ℕ) → In b order → slice_index places b ≡ suc (place order b)
-  pub absent : (b : ℕ) → (In b order → ⊥) → slice_index places b ≡ 0
+  pub present : (b : ℕ) → In b order → slice_index_or places b None ≡ Some (place order b)
+  pub absent : (b : ℕ) → (In b order → ⊥) → slice_index_or places b None ≡ None
+
+-- both are places, and the first stands before the second
+abbrev pub Earlier : Option ℕ → Option ℕ → Type 0
+Earlier None q = ⊥
+Earlier (Some p) None = ⊥
+Earlier (Some p) (Some q) = p < q
 
 -- whether the table has the sender before the receiver
-abbrev pub Before : List ℕ → Message → Type 0
-Before places m = (0 < slice_index places m.from) × (slice_index places m.from < slice_index places m.to)
+abbrev pub Before : List (Option ℕ) → Message → Type 0
+Before places m = Earlier (slice_index_or places m.from None) (slice_index_or places m.to None)

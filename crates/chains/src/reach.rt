@@ -54,8 +54,8 @@ impl ChainFigure for ReachRow {
 
     fn better(&self, a: [bool; 257], b: [bool; 257]) -> [bool; 257] {
         let mut row = a;
-        for i in 0..257 {
-            row[i] = a[i] | b[i];
+        for (i, entry) in row.iter_mut().enumerate() {
+            *entry |= b[i];
         }
         row
     }
@@ -65,9 +65,9 @@ impl ChainFigure for ReachRow {
 fn with_block(mut row: [bool; 257], block: u32) -> [bool; 257]
     ensures { result ≡ slice_set row block true }
 {
-    let i = block as usize;
-    if i < 257 {
-        row[i] = true;
+    // by the index: of what stands in an array after `get_mut` a proof knows nothing
+    if block < 257 {
+        row[block as usize] = true;
     }
     row
 }

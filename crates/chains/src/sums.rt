@@ -1,6 +1,6 @@
 //! The greatest sums along chains: of block times, and of step costs.
 
-ghost use Rattle.std.specs.Prelude.{◌≡◌, max, slice_index};
+ghost use Rattle.std.specs.Prelude.{◌≡◌};
 ghost use Rattle.chains.specs.Lists.{total};
 ghost use Rattle.chains.specs.Sums.{GreatestAtEach, SmallCosts, SmallTimes, cost_in, steps_total, sum_laws, sums, time_in};
 
@@ -23,16 +23,17 @@ impl<'a> ChainFigure for BlockSums<'a> {
 
     fn alone(&self, block: u32) -> u64 {
         let times = self.times;
-        read(times, block as usize)
+        times.get(block as usize).copied().unwrap_or(0)
     }
 
     fn extend(&self, from: u32, _to: u32, v: u64) -> u64 {
         let times = self.times;
-        read(times, from as usize).saturating_add(v)
+        let time = times.get(from as usize).copied().unwrap_or(0);
+        time.saturating_add(v)
     }
 
     fn better(&self, a: u64, b: u64) -> u64 {
-        greater(a, b)
+        a.max(b)
     }
 }
 
@@ -55,26 +56,14 @@ impl<'a> ChainFigure for StepSums<'a> {
     }
 
     fn extend(&self, from: u32, to: u32, v: u64) -> u64 {
-        read(self.costs, from as usize * 257 + to as usize).saturating_add(v)
+        let i = from as usize * 257 + to as usize;
+        let cost = self.costs.get(i).copied().unwrap_or(0);
+        cost.saturating_add(v)
     }
 
     fn better(&self, a: u64, b: u64) -> u64 {
-        greater(a, b)
+        a.max(b)
     }
-}
-
-/// The greater of two.
-fn greater(a: u64, b: u64) -> u64
-    ensures { result ≡ max a b }
-{
-    a.max(b)
-}
-
-/// The number at a place of a table, 0 past its end.
-fn read(table: &[u64], i: usize) -> u64
-    ensures { result ≡ slice_index table.now i }
-{
-    if i < table.len() { table[i] } else { 0 }
 }
 
 /// What the figure says of each block of the order.

@@ -24,6 +24,7 @@ struct Links<'a> {
 
 impl<'a> Links<'a> {
     /// Gathers the messages by sender.
+    #[tactic(auto, using(crate::proofs::Links::gathered_more))]
     fn gather(messages: &'a [Message]) -> Links<'a>
         requires few { length messages.now ≤ 1024 }
         requires ends { (i : ℕ) → i < length messages.now → ((message_at messages.now i).from ≤ 256) × ((message_at messages.now i).to ≤ 256) }
@@ -61,12 +62,26 @@ impl<'a> Links<'a> {
         while let Some(i) = at {
             let to = messages[i as usize].to;
             if first_time(met, to, block) {
-                found = figure.better(found, figure.extend(block, to, best[to as usize]));
+                found = better_through(figure, found, block, to, best);
             }
             at = self.next[i as usize];
         }
         found
     }
+}
+
+/// What was found so far, or what the step from `block` to `to` leads to, whichever is better.
+fn better_through<F: ChainFigure>(
+    figure: &F,
+    found: F::Value,
+    block: u32,
+    to: u32,
+    best: &[F::Value; 257],
+) -> F::Value
+    requires { to ≤ 256 }
+    ensures { (d : F.Value) → result ≡ (F.meaning figure.now).better found ((F.meaning figure.now).extended block to (slice_index_or best.now to d)) }
+{
+    figure.better(found, figure.extend(block, to, best[to as usize]))
 }
 
 /// Whether `block` was last met from another than `from`; afterwards it is met from `from`.

@@ -66,32 +66,20 @@ impl<'a> ChainFigure for StepSums<'a> {
     }
 }
 
-/// What the figure says of each block of the order.
-fn block_sums(figure: &BlockSums, network: &Network, greatest: &mut [u64; 257])
-    ensures { GreatestAtEach (total (time_in figure.now.times.now)) (SmallTimes network.now.order.now (time_in figure.now.times.now)) network.now.messages.now network.now.order.now greatest.old greatest.new }
-{
-    best_from_each(figure, network, greatest);
-}
-
-/// What the figure says of each block of the order.
-fn step_sums(figure: &StepSums, network: &Network, greatest: &mut [u64; 257])
-    ensures { GreatestAtEach (steps_total (cost_in figure.now.costs.now)) (SmallCosts network.now.messages.now (cost_in figure.now.costs.now)) network.now.messages.now network.now.order.now greatest.old greatest.new }
-{
-    best_from_each(figure, network, greatest);
-}
-
 /// For each block of the order, the greatest sum of block times over the chains that begin with it, no more than
 /// fits a u64; where every time is below 2^56, that is the greatest sum itself. Every other entry stays as it was.
+#[tactic(auto, using(crate::proofs::Greatest::block_sums_at_each))]
 pub fn greatest_block_sums(network: &Network, times: &[u64; 257], greatest: &mut [u64; 257])
     ensures { GreatestAtEach (total (time_in times.now)) (SmallTimes network.now.order.now (time_in times.now)) network.now.messages.now network.now.order.now greatest.old greatest.new }
 {
-    block_sums(&BlockSums { times }, network, greatest);
+    best_from_each(&BlockSums { times }, network, greatest);
 }
 
 /// For each block of the order, the greatest sum of step costs over the chains that begin with it, no more than
 /// fits a u64; where every step costs less than 2^56, that is the greatest sum itself. Every other entry stays as it was.
+#[tactic(auto, using(crate::proofs::Greatest::step_sums_at_each))]
 pub fn greatest_step_sums(network: &Network, costs: &[u64], greatest: &mut [u64; 257])
     ensures { GreatestAtEach (steps_total (cost_in costs.now)) (SmallCosts network.now.messages.now (cost_in costs.now)) network.now.messages.now network.now.order.now greatest.old greatest.new }
 {
-    step_sums(&StepSums { costs }, network, greatest);
+    best_from_each(&StepSums { costs }, network, greatest);
 }

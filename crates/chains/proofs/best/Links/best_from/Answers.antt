@@ -59,7 +59,6 @@ loop-at-preserved g c =
     let S = successors (drop (upto (Some i)) ms) b in
     let most : to ≤ 256 = links.receivers i lt in
     let small : to < 257 = omega arith in
-    let within : to < length c.args.best.now = omega (arith, c.told-best) in
     let value : g.row.F-Value.Denot → List ℕ → g.row.F-Value.Denot = λ d ss. fold f.better (f.alone b) (map (λ s. f.extended b s (get_or c.args.best.now s d)) ss) in
     let so_far : (d : g.row.F-Value.Denot) → c.loop-at.found ≡ value d S = λ d. c.loop-at.invariant.1 d ∙ ap (λ p. value d (successors (drop (upto p) ms) b)) c.in-Some.is in
     let Q : List (Option ℕ) → Type 0 = λ m. Walked ms b before at' m in
@@ -67,8 +66,7 @@ loop-at-preserved g c =
       | then-first_time x ↦
           let new : has to S ≡ false = never (has to S) (w.marked to small) (c.first_time.ensures.new.0 x.if-first_time.true) in (
             subst Q (sym c.first_time.ensures.after) (walked_new ms b before i at' met lt small e w new),
-            λ d. x.found-is ∙ x.better-found.ensures
-                ∙ ap₂ f.better (so_far d) (x.extend.ensures ∙ ap (f.extended b to) (get_or_default c.args.best.now to _ d within))
+            λ d. x.found-is ∙ x.better_through-found.ensures d ∙ ap (λ v. f.better v (f.extended b to (get_or c.args.best.now to d))) (so_far d)
                 ∙ sym (folded_more f laws (f.alone b) (f.extended b to (get_or c.args.best.now to d)) (map (λ s. f.extended b s (get_or c.args.best.now s d)) S))
                 ∙ sym (ap (value d) (met_new ms b before i at' lt w.own e new)),
           )

@@ -7,13 +7,6 @@ use Rattle.chains.proofs.best.Links.gather.Goals as goal
 pub loop-i-init : goal.loop-i-init
 loop-i-init c = record { wide = refl; long = refl; heads = λ b l. get_or-replicate 257 b None None l; nexts = λ j l. absurd (omega arith) }
 
-pub loop-i-preserved : goal.loop-i-preserved
-loop-i-preserved c =
-    let ms = c.args.messages.now in
-    let i = c.loop-i.i in
-    let from : (message_at ms i).from ≤ 256 = (c.requires.ends i c.loop-i-test.true).0 in
-    gathered_more ms c.loop-i.head c.loop-i.next i (message_at ms i).from _ _ (omega (arith, c.requires.few)) (omega arith) refl c.replace.ensures.after c.replace.ensures.value c.loop-i.invariant
-
 pub invariant_of-result : goal.invariant_of-result
 invariant_of-result c =
     let ms = c.args.messages.now in

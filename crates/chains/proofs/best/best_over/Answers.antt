@@ -7,7 +7,7 @@ use Rattle.std.proofs.lemmas.Bool.{cases_eq}
 use Rattle.chains.specs.Lists.{In}
 use Rattle.chains.specs.Chains.{place, successors}
 use Rattle.chains.proofs.Lists.{in_place, all_same}
-use Rattle.chains.proofs.Orders.{ends, last}
+use Rattle.chains.proofs.Orders.{Last, ends, last}
 use Rattle.chains.proofs.Bests.{Done, done_more}
 use Rattle.chains.proofs.Every.{enumerates}
 use Rattle.chains.proofs.best.best_over.Goals as goal

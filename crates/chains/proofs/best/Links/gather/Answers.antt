@@ -1,7 +1,6 @@
-use Rattle.std.proofs.Common.{◌≡◌, ◌≤◌, None, length, sym, refl, ap, ◌∙◌, arith}
+use Rattle.std.proofs.Common.{◌≡◌, None, length, sym, refl, ap, ◌∙◌, arith}
 use Rattle.std.proofs.lemmas.List.{get_or-replicate}
-use Rattle.chains.specs.Links.{message_at, latest}
-use Rattle.chains.proofs.Links.{gathered_more}
+use Rattle.chains.specs.Links.{latest}
 use Rattle.chains.proofs.best.Links.gather.Goals as goal
 
 pub loop-i-init : goal.loop-i-init

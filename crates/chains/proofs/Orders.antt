@@ -1,4 +1,4 @@
--- What a network's facts say together.
+-- What the facts of a good order say together.
 use Rattle.std.proofs.Common.{◌≡◌, ℕ, suc, ◌+◌, ◌<◌, ◌≤◌, List, [], ◌∷◌, ◌++◌, length, get_or, take, drop, sym, refl, ap, ◌∙◌, subst, append_assoc, arith}
 use Rattle.std.proofs.Math.Seq.{get_or-append_seam}
 use Rattle.std.proofs.lemmas.List.{take-append-drop, take_at, length_push, length-append}
@@ -6,11 +6,7 @@ use Rattle.chains.specs.Lists.{In}
 use Rattle.chains.specs.Chains.{place, Ordered}
 use Rattle.chains.specs.Links.{message_at}
 use Rattle.chains.specs.declared.message.Message.{Message}
-use Rattle.chains.specs.declared.network.Network.{Network}
 use Rattle.chains.proofs.Lists.{in_getD, place_in}
-
-pub ordered_by : (w : Network) → Ordered w.messages.now w.order.now
-ordered_by w = record { few = w.few; short = w.short; blocks = w.blocks; once = w.once; forward = w.forward }
 
 -- both ends of a message are blocks
 pub ends : (ms : List Message) (order : List ℕ) → Ordered ms order → (i : ℕ) → i < length ms → ((message_at ms i).from ≤ 256) × ((message_at ms i).to ≤ 256)

@@ -11,6 +11,7 @@ use crate::message::Message;
 use crate::network::Network;
 
 /// The messages by sender: for each block its last message, and for each message the one before it from that block.
+// lists by number in two tables: a planning loop may use no heap, and one pass over the messages fills them
 #[derive(Clone, Copy)]
 struct Links<'a> {
     messages: &'a [Message],

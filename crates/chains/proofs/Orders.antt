@@ -24,6 +24,7 @@ pub record Last (order rest less : List ℕ) (b : ℕ) : Type 0 where
   pub at : get_or order (length less) 0 ≡ b
   pub longer : length rest ≡ length less + 1
   pub listed : In b order
+  pub low : 1 ≤ b
   pub most : b ≤ 256
   pub after : place order b ≡ length less
 
@@ -44,6 +45,7 @@ last ms order o rest less b t e =
       at = at;
       longer = ap length e ∙ length_push less b;
       listed = i;
+      low = (o.blocks b i).0;
       most = (o.blocks b i).1;
       after = ap (place order) (sym at) ∙ o.once k lt;
     }

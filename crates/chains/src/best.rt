@@ -1,10 +1,12 @@
 //! The best over all chains from each block: one run for every figure.
 
-ghost use Rattle.std.specs.Prelude.{◌≡◌, ℕ, ◌<◌, ◌≤◌, map, length, fold, None, Some, Decides, slice_index_or, slice_set};
+ghost use Rattle.std.specs.Prelude.{◌≡◌, ℕ, ◌<◌, ◌≤◌, map, length, fold, None, Decides, slice_index, slice_index_or, slice_set};
 ghost use Rattle.chains.specs.Lists.{In};
 ghost use Rattle.chains.specs.Chains.{successors, Enumerates, Ordered};
 ghost use Rattle.chains.specs.Figures.{BestAtEach};
 ghost use Rattle.chains.specs.Links.{latest, message_at};
+
+use std::mem;
 
 use crate::figure::ChainFigure;
 use crate::message::Message;
@@ -50,12 +52,12 @@ impl<'a> Links<'a> {
         figure: &F,
         block: u32,
         best: &[F::Value; 257],
-        met: &mut [Option<u32>; 257],
+        met: &mut [u32; 257],
     ) -> F::Value
         requires within { block ≤ 256 }
-        requires fresh { (s : ℕ) → slice_index_or met.now s None ≡ Some block → ⊥ }
+        requires fresh { (s : ℕ) → slice_index met.now s ≡ block → ⊥ }
         ensures value { (d : F.Value) → result ≡ fold (F.meaning figure.now).better ((F.meaning figure.now).alone block) (map (λ s. (F.meaning figure.now).extended block s (slice_index_or best.now s d)) (successors self.now.messages.now block)) }
-        ensures others { (s b : ℕ) → slice_index_or met.new s None ≡ Some b → (b ≡ block → ⊥) → slice_index_or met.old s None ≡ Some b }
+        ensures others { (s : ℕ) → (slice_index met.new s ≡ block → ⊥) → slice_index met.new s ≡ slice_index met.old s }
     {
         let messages = self.messages;
         let mut found = figure.alone(block);
@@ -86,13 +88,13 @@ fn better_through<F: ChainFigure>(
 }
 
 /// Whether `block` was last met from another than `from`; afterwards it is met from `from`.
-fn first_time(met: &mut [Option<u32>; 257], block: u32, from: u32) -> bool
+fn first_time(met: &mut [u32; 257], block: u32, from: u32) -> bool
     requires { block ≤ 256 }
-    ensures new { Decides result (slice_index_or met.old block None ≡ Some from → ⊥) }
-    ensures after { met.new ≡ slice_set met.old block (Some from) }
+    ensures new { Decides result (slice_index met.old block ≡ from → ⊥) }
+    ensures after { met.new ≡ slice_set met.old block from }
 {
-    let last = met[block as usize].replace(from);
-    last.is_none_or(|last| last != from)
+    let last = mem::replace(&mut met[block as usize], from);
+    last != from
 }
 
 /// The best over all chains from each block of a good order, from its last block to its first.
@@ -107,7 +109,7 @@ fn best_over<F: ChainFigure>(
     ensures chains { (b : ℕ) → In b order.now → Enumerates messages.now (length order.now) b }
 {
     let links = Links::gather(messages);
-    let mut met = [None; 257];
+    let mut met = [0; 257]; // no block
     for block in order.iter().rev() {
         let value = links.best_from(figure, *block, best, &mut met);
         best[*block as usize] = value;

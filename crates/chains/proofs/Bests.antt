@@ -1,5 +1,5 @@
 -- What the laws of a figure give of the best over all chains.
-use Rattle.std.proofs.Common.{◌≡◌, ℕ, zero, suc, ◌+◌, ◌<◌, ◌≤◌, List, [], ◌∷◌, ◌++◌, map, length, get_or, set, fold, sym, refl, ap, ◌∙◌, inl, ⊎_elim, arith}
+use Rattle.std.proofs.Common.{◌≡◌, ℕ, zero, suc, ◌+◌, ◌<◌, ◌≤◌, List, [], ◌∷◌, ◌++◌, map, length, get_or, set, fold, sym, refl, ap, ◌∙◌, subst, inl, ⊎_elim, arith}
 use Rattle.std.specs.List.{flat_map}
 use Rattle.std.proofs.lemmas.List.{map-append, get_or-set_same, get_or-set_other}
 use Rattle.std.proofs.lemmas.Bool.{cases_eq}
@@ -85,19 +85,19 @@ module _ {V : Type 0} (f : Figure V) (laws : Laws f) where
           ap (f.extended b s) (done d s n (omega arith) r.1 (omega arith))))
           ∙ sym (best_step n b)
 
-      pub done_more : (out : List V) (k : ℕ) (v : V) → k < length order → length out ≡ 257 → Done f ms order out (k + 1)
-          → ((d : V) → v ≡ fold f.better (f.alone (get_or order k 0)) (map (λ s. f.extended (get_or order k 0) s (get_or out s d)) (successors ms (get_or order k 0))))
-          → Done f ms order (set out (get_or order k 0) v) k
-      done_more out k v l size done is d c n low has long =
-          let b = get_or order k 0 in
-          let here : place order b ≡ k = ordered.once k l in
-          let most : b ≤ 256 = (ordered.blocks b (in_getD order k 0 l)).1 in
+      pub done_more : (out : List V) (k b : ℕ) (v : V) → k < length order → get_or order k 0 ≡ b → length out ≡ 257 → Done f ms order out (k + 1)
+          → ((d : V) → v ≡ fold f.better (f.alone b) (map (λ s. f.extended b s (get_or out s d)) (successors ms b)))
+          → Done f ms order (set out b v) k
+      done_more out k b v l at size done is d c n low has long =
+          let here : place order b ≡ k = ap (place order) (sym at) ∙ ordered.once k l in
+          let In-order : ℕ → Type 0 = λ x. In x order in
+          let most : b ≤ 256 = (ordered.blocks b (subst In-order at (in_getD order k 0 l))).1 in
           let done' : Done f ms order out (suc (place order b)) = λ d c n low has long. done d c n (omega arith) has long in
           ⊎_elim
           (λ (e : c ≡ b). let e' : place order c ≡ place order b = ap (place order) e in
           ap (λ x. get_or (set out b v) x d) e ∙ get_or-set_same out b v d (omega arith) ∙ is d ∙ next out d b n done' (omega arith) (omega arith) ∙ ap (best f ms n) (sym e))
           (λ (ne : c ≡ b → ⊥).
-          let other : place order c ≡ k → ⊥ = λ e. ne (sym (at_place order c has) ∙ ap (λ x. get_or order x 0) e) in
+          let other : place order c ≡ k → ⊥ = λ e. ne (sym (at_place order c has) ∙ ap (λ x. get_or order x 0) e ∙ at) in
           let above : k + 1 ≤ place order c = ⊎_elim (λ (e : place order c ≡ k). absurd (other e)) (λ (n : place order c ≡ k → ⊥). omega arith) (cases_eq (place order c) k) in
           get_or-set_other out b c v d ne ∙ done d c n above has long)
           (cases_eq c b)

@@ -1,10 +1,10 @@
 -- The best of a sum figure is the greatest sum: some chain has it, and none has more.
-use Rattle.std.proofs.Common.{◌≡◌, ℕ, ◌+◌, ◌-◌, ◌*◌, ◌^◌, ◌<◌, ◌≤◌, max, ◌⊎◌, List, [], ◌∷◌, map, length, fold, sym, refl, ap, ◌∙◌, subst, inl, inr, ⊎_elim, arith}
+use Rattle.std.proofs.Common.{◌≡◌, ℕ, ◌+◌, ◌-◌, ◌*◌, ◌^◌, ◌<◌, ◌≤◌, max, ◌⊎◌, List, [], ◌∷◌, map, length, get_or, fold, sym, refl, ap, ◌∙◌, subst, inl, inr, ⊎_elim, arith}
 use Rattle.std.proofs.lemmas.Bool.{cases_lt}
 use Rattle.chains.specs.Lists.{In, total}
 use Rattle.chains.specs.Chains.{Step, Follows, ChainFrom, Ordered, Enumerates, chains, place}
-use Rattle.chains.specs.Figures.{value_from, value, best_of, best}
-use Rattle.chains.specs.Sums.{capped, sums, steps_from, GreatestFrom}
+use Rattle.chains.specs.Figures.{BestAtEach, value_from, value, best_of, best}
+use Rattle.chains.specs.Sums.{capped, sums, steps_from, steps_total, GreatestFrom, GreatestAtEach, SmallCosts, SmallTimes, cost_in, time_in}
 use Rattle.chains.specs.declared.message.Message.{Message}
 use Rattle.chains.proofs.Lists.{in_place, place_in}
 use Rattle.chains.proofs.Every.{rises, short}
@@ -103,3 +103,33 @@ module _ (ms : List Message) (order : List ℕ) (o : Ordered ms order) where
       let l : length r + place order b < length order = short ms order o r b (in_place order b i) h in
       let t : steps_from cost b r ≤ length r * (2 ^ 56 - 1) = step_small cost small b r h in
       omega arith
+
+  -- what a run of a figure leaves
+  pub block_sums_at_each : (m : List ℕ → ℕ) (times before after : List ℕ) → BestAtEach (sums (time_in times) (λ p q. time_in times p)) ms order before after → ((b : ℕ) → In b order → Enumerates ms (length order) b)
+      → m ≡ total (time_in times) → GreatestAtEach m (SmallTimes order (time_in times)) ms order before after
+  block_sums_at_each m times before after h all is =
+      let time : ℕ → ℕ = time_in times in
+      let G : (List ℕ → ℕ) → Type 0 = λ f. GreatestAtEach f (SmallTimes order time) ms order before after in
+      let fitted : (b : ℕ) → In b order → GreatestFrom ms b (λ l. capped (total time l)) (get_or after b 0) =
+      λ b i. let P : ℕ → Type 0 = λ x. GreatestFrom ms b (λ l. capped (total time l)) x in
+      subst P (sym (h.values b 0 i))
+      (greatest_same ms b (value (sums time (λ p q. time p))) (λ l. capped (total time l)) _ (λ r _. block_value time b r) (best_greatest time (λ p q. time p) ms b (length order) (all b i))) in
+      subst G (sym is) (record {
+        fitted = fitted;
+        exact = λ small b i. greatest_same ms b (λ l. capped (total time l)) (total time) (get_or after b 0) (λ r h. block_exact time small b r i h) (fitted b i);
+        kept = λ b out. h.kept b 0 out;
+      })
+
+  pub step_sums_at_each : (costs before after : List ℕ) → BestAtEach (sums (λ b. 0) (cost_in costs)) ms order before after → ((b : ℕ) → In b order → Enumerates ms (length order) b)
+      → GreatestAtEach (steps_total (cost_in costs)) (SmallCosts ms (cost_in costs)) ms order before after
+  step_sums_at_each costs before after h all =
+      let cost : ℕ → ℕ → ℕ = cost_in costs in
+      let fitted : (b : ℕ) → In b order → GreatestFrom ms b (λ l. capped (steps_total cost l)) (get_or after b 0) =
+      λ b i. let P : ℕ → Type 0 = λ x. GreatestFrom ms b (λ l. capped (steps_total cost l)) x in
+      subst P (sym (h.values b 0 i))
+      (greatest_same ms b (value (sums (λ b. 0) cost)) (λ l. capped (steps_total cost l)) _ (λ r _. step_value cost b r) (best_greatest (λ b. 0) cost ms b (length order) (all b i))) in
+      record {
+        fitted = fitted;
+        exact = λ small b i. greatest_same ms b (λ l. capped (steps_total cost l)) (steps_total cost) (get_or after b 0) (λ r h. step_exact cost small b r i h) (fitted b i);
+        kept = λ b out. h.kept b 0 out;
+      }

@@ -4,8 +4,8 @@ use Rattle.std.proofs.lemmas.List.{length-set, length-replicate, get_or-set_same
 use Rattle.std.proofs.lemmas.Bool.{cases_eq, eqb-true, eq-eqb, or_cases, or_left, or_right, false≢true}
 use Rattle.chains.specs.Lists.{In}
 use Rattle.chains.specs.Chains.{Follows, ChainFrom, Ordered, Enumerates, chains}
-use Rattle.chains.specs.Figures.{Figure, value_from, value, best_of, best}
-use Rattle.chains.specs.Reach.{Reaches, reach, reach_row, either_row}
+use Rattle.chains.specs.Figures.{BestAtEach, Figure, value_from, value, best_of, best}
+use Rattle.chains.specs.Reach.{ReachedAtEach, Reaches, RowsAtEach, reach, reach_row, either_row}
 use Rattle.chains.specs.declared.message.Message.{Message}
 use Rattle.chains.proofs.Lists.{all_same, place_in}
 use Rattle.chains.proofs.Every.{rises}
@@ -107,3 +107,20 @@ either_long (x ∷ xs) (y ∷ ys) e = ap suc (either_long xs ys (omega arith))
 
 pub either_whole : (a b row : List Bool) → length a ≡ length row → length b ≡ length row → ((i : ℕ) → i < length row → get_or row i false ≡ (get_or a i false || get_or b i false)) → row ≡ either_row a b
 either_whole a b row p q h = ext_get_or false row (either_row a b) (sym p ∙ sym (either_long a b (p ∙ sym q))) (λ i l. h i l ∙ sym (either_at a b i))
+
+-- what a run of the figure leaves
+pub reached_at_each : (ms : List Message) (order : List ℕ) (goal : ℕ) (before after : List Bool) → BestAtEach (reach goal) ms order before after
+    → ((b : ℕ) → In b order → Enumerates ms (length order) b) → ReachedAtEach ms order goal before after
+reached_at_each ms order goal before after h all = record {
+  found = λ b i. let P : Bool → Type 0 = λ x. Decides x (Reaches ms b goal) in
+      subst P (sym (h.values b false i)) (tells (reach goal) (λ x. x) (λ x y. refl) ms b goal (λ r _. reach_value goal b r) (length order) (all b i));
+  kept = λ b out. h.kept b false out;
+}
+
+pub rows_at_each : (ms : List Message) (order : List ℕ) (before after : List (List Bool)) → Ordered ms order → BestAtEach reach_row ms order before after
+    → ((b : ℕ) → In b order → Enumerates ms (length order) b) → RowsAtEach ms order before after
+rows_at_each ms order before after o h all = record {
+  found = λ b goal i. let P : List Bool → Type 0 = λ x. Decides (get_or x goal false) (Reaches ms b goal) in
+      subst P (sym (h.values b [] i)) (tells reach_row (λ x. get_or x goal false) (λ x y. either_at x y goal) ms b goal (λ r h. (row_value ms order o goal b r i h).1) (length order) (all b i));
+  kept = λ b out. h.kept b [] out;
+}

@@ -1,5 +1,5 @@
 -- How the code finds the messages of a sender: not what a chain is, but what its tables hold.
-use Rattle.std.specs.Prelude.{◌≡◌, ℕ, zero, suc, ◌<◌, cond, List, length, ◌==◌, slice_index, slice_index_or}
+use Rattle.std.specs.Prelude.{◌≡◌, ℕ, zero, suc, ◌<◌, cond, List, Option, None, Some, ◌==◌, slice_index_or}
 use Rattle.chains.specs.Chains.{Blocks, Once, place}
 use Rattle.chains.specs.Lists.{In}
 use Rattle.chains.specs.declared.message.Message.{Message}
@@ -7,23 +7,24 @@ use Rattle.chains.specs.declared.message.Message.{Message}
 abbrev pub message_at : List Message → ℕ → Message
 message_at ms i = slice_index_or ms i (record { from = 0; to = 0; size = 0 })
 
--- one more than the number of the last message from b among the first i messages; 0 where there is none
-abbrev pub latest : List Message → ℕ → ℕ → ℕ
-latest ms b zero = 0
-latest ms b (suc i) = cond ((message_at ms i).from == b) (suc i) (latest ms b i)
+-- the number of the last message from b among the first i messages; nothing where there is none
+abbrev pub latest : List Message → ℕ → ℕ → Option ℕ
+latest ms b zero = None
+latest ms b (suc i) = cond ((message_at ms i).from == b) (Some i) (latest ms b i)
 
--- from the head of each block one comes to its last message, and from each message to the one before it of the same sender
-pub record Linked (ms : List Message) (head next : List ℕ) : Type 0 where
-  pub heads : (b : ℕ) → b < 257 → slice_index head b ≡ latest ms b (length ms)
-  pub nexts : (i : ℕ) → i < length ms → slice_index next i ≡ latest ms (message_at ms i).from i
-
--- an order whose blocks are good, with the table of their places counted from 1, and 0 for each number without a place
-pub record Numbered (order places : List ℕ) : Type 0 where
+-- an order whose blocks are good, with the table of their places, and nothing at each number without a place
+pub record Numbered (order : List ℕ) (places : List (Option ℕ)) : Type 0 where
   pub blocks : Blocks order
   pub once : Once order
-  pub present : (b : ℕ) → In b order → slice_index places b ≡ suc (place order b)
-  pub absent : (b : ℕ) → (In b order → ⊥) → slice_index places b ≡ 0
+  pub present : (b : ℕ) → In b order → slice_index_or places b None ≡ Some (place order b)
+  pub absent : (b : ℕ) → (In b order → ⊥) → slice_index_or places b None ≡ None
+
+-- both are places, and the first stands before the second
+abbrev pub Earlier : Option ℕ → Option ℕ → Type 0
+Earlier None q = ⊥
+Earlier (Some p) None = ⊥
+Earlier (Some p) (Some q) = p < q
 
 -- whether the table has the sender before the receiver
-abbrev pub Before : List ℕ → Message → Type 0
-Before places m = (0 < slice_index places m.from) × (slice_index places m.from < slice_index places m.to)
+abbrev pub Before : List (Option ℕ) → Message → Type 0
+Before places m = Earlier (slice_index_or places m.from None) (slice_index_or places m.to None)

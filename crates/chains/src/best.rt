@@ -1,66 +1,76 @@
 //! The best over all chains from each block: one run for every figure.
 
-ghost use Rattle.std.specs.Prelude.{◌≡◌, ℕ, ◌+◌, ◌<◌, ◌≤◌, not, map, length, fold, ◌==◌, slice_index, slice_index_or, slice_set};
+ghost use Rattle.std.specs.Prelude.{◌≡◌, ℕ, ◌<◌, ◌≤◌, map, length, fold, None, Decides, slice_index, slice_index_or, slice_set};
 ghost use Rattle.chains.specs.Lists.{In};
 ghost use Rattle.chains.specs.Chains.{successors, Enumerates, Ordered};
 ghost use Rattle.chains.specs.Figures.{BestAtEach};
-ghost use Rattle.chains.specs.Links.{Linked, message_at};
+ghost use Rattle.chains.specs.Links.{latest, message_at};
+
+use std::mem;
 
 use crate::figure::ChainFigure;
 use crate::message::Message;
 use crate::network::Network;
 
-/// The messages of each sender as a list from its last to its first: one more than a message's number, and 0 at the end.
+/// The messages by sender: for each block its last message, and for each message the one before it from that block.
+// lists by number in two tables: a planning loop may use no heap, and one pass over the messages fills them
 #[derive(Clone, Copy)]
-struct Links {
-    head: [u16; 257],
-    next: [u16; 1024],
+struct Links<'a> {
+    messages: &'a [Message],
+    head: [Option<u16>; 257],
+    next: [Option<u16>; 1024],
+    ghost few: { length messages.now ≤ 1024 },
+    ghost receivers: { (i : ℕ) → i < length messages.now → (message_at messages.now i).to ≤ 256 },
+    ghost heads: { (b : ℕ) → b < 257 → slice_index_or head b None ≡ latest messages.now b (length messages.now) },
+    ghost nexts: { (i : ℕ) → i < length messages.now → slice_index_or next i None ≡ latest messages.now (message_at messages.now i).from i },
 }
 
-/// Puts message number `i` before the other messages of its sender.
-fn link(links: &mut Links, i: u16, from: u32)
-    requires message { i < 1024 }
-    requires block { from ≤ 256 }
-    ensures next { links.new.next ≡ slice_set links.old.next i (slice_index links.old.head from) }
-    ensures head { links.new.head ≡ slice_set links.old.head from (i + 1) }
-{
-    links.next[i as usize] = links.head[from as usize];
-    links.head[from as usize] = i + 1;
-}
-
-/// Gathers the messages by sender.
-fn gather(messages: &[Message]) -> Links
-    requires few { length messages.now ≤ 1024 }
-    requires senders { (i : ℕ) → i < length messages.now → (message_at messages.now i).from ≤ 256 }
-    ensures { Linked messages.now result.head result.next }
-{
-    let mut links = Links {
-        head: [0; 257],
-        next: [0; 1024],
-    };
-    for (i, m) in messages.iter().enumerate() {
-        link(&mut links, i as u16, m.from);
+impl<'a> Links<'a> {
+    /// Gathers the messages by sender.
+    #[tactic(auto, using(crate::proofs::Links::gathered_more))]
+    fn gather(messages: &'a [Message]) -> Links<'a>
+        requires few { length messages.now ≤ 1024 }
+        requires ends { (i : ℕ) → i < length messages.now → ((message_at messages.now i).from ≤ 256) × ((message_at messages.now i).to ≤ 256) }
+        ensures { result.messages.now ≡ messages.now }
+    {
+        let mut head = [None; 257];
+        let mut next = [None; 1024];
+        for (i, m) in messages.iter().enumerate() {
+            next[i] = head[m.from as usize].replace(i as u16);
+        }
+        Links {
+            messages,
+            head,
+            next,
+        }
     }
-    links
-}
 
-/// Whether the block's stamp is another than `mark`; afterwards it is `mark`.
-fn first_time(stamp: &mut [u16; 257], block: u32, mark: u16) -> bool
-    requires { block ≤ 256 }
-    ensures new { result ≡ not (slice_index stamp.old block == mark) }
-    ensures after { stamp.new ≡ slice_set stamp.old block mark }
-{
-    let new = stamp[block as usize] != mark;
-    stamp[block as usize] = mark;
-    new
-}
-
-/// The value that the table has for a block.
-fn value_of<V: Copy>(table: &[V; 257], block: u32) -> V
-    requires { block ≤ 256 }
-    ensures { (d : V) → result ≡ slice_index_or table.now block d }
-{
-    table[block as usize]
+    /// The best over all chains from `block`, from the bests of its successors. A successor that several messages
+    /// name is taken once: its entry of `met` is then `block`, which no entry is before.
+    fn best_from<F: ChainFigure>(
+        &self,
+        figure: &F,
+        block: u32,
+        best: &[F::Value; 257],
+        met: &mut [u32; 257],
+    ) -> F::Value
+        requires within { block ≤ 256 }
+        requires fresh { (s : ℕ) → slice_index met.now s ≡ block → ⊥ }
+        ensures value { (d : F.Value) → result ≡ fold (F.meaning figure.now).better ((F.meaning figure.now).alone block) (map (λ s. (F.meaning figure.now).extended block s (slice_index_or best.now s d)) (successors self.now.messages.now block)) }
+        ensures others { (s : ℕ) → (slice_index met.new s ≡ block → ⊥) → slice_index met.new s ≡ slice_index met.old s }
+    {
+        let messages = self.messages;
+        let mut found = figure.alone(block);
+        let mut at = self.head[block as usize];
+        while let Some(i) = at {
+            let to = messages[i as usize].to;
+            if first_time(met, to, block) {
+                found = better_through(figure, found, block, to, best);
+            }
+            at = self.next[i as usize];
+        }
+        found
+    }
 }
 
 /// What was found so far, or what the step from `block` to `to` leads to, whichever is better.
@@ -69,43 +79,22 @@ fn better_through<F: ChainFigure>(
     found: F::Value,
     block: u32,
     to: u32,
-    beyond: F::Value,
+    best: &[F::Value; 257],
 ) -> F::Value
-    ensures { result ≡ (F.meaning figure.now).better found ((F.meaning figure.now).extended block to beyond) }
+    requires { to ≤ 256 }
+    ensures { (d : F.Value) → result ≡ (F.meaning figure.now).better found ((F.meaning figure.now).extended block to (slice_index_or best.now to d)) }
 {
-    figure.better(found, figure.extend(block, to, beyond))
+    figure.better(found, figure.extend(block, to, best[to as usize]))
 }
 
-/// The best over all chains from `block`, from the bests of its successors. A successor that several messages
-/// name is taken once: its entry of `stamp` is then `mark`, which no entry is before.
-fn best_from<F: ChainFigure>(
-    figure: &F,
-    messages: &[Message],
-    links: &Links,
-    block: u32,
-    best: &[F::Value; 257],
-    stamp: &mut [u16; 257],
-    mark: u16,
-) -> F::Value
-    requires few { length messages.now ≤ 1024 }
-    requires linked { Linked messages.now links.now.head links.now.next }
-    requires receivers { (i : ℕ) → i < length messages.now → (message_at messages.now i).to ≤ 256 }
-    requires within { block ≤ 256 }
-    requires fresh { (s : ℕ) → slice_index stamp.old s < mark }
-    ensures value { (d : F.Value) → result ≡ fold (F.meaning figure.now).better ((F.meaning figure.now).alone block) (map (λ s. (F.meaning figure.now).extended block s (slice_index_or best.now s d)) (successors messages.now block)) }
-    ensures stamped { (s : ℕ) → slice_index stamp.new s ≤ mark }
+/// Whether `block` was last met from another than `from`; afterwards it is met from `from`.
+fn first_time(met: &mut [u32; 257], block: u32, from: u32) -> bool
+    requires { block ≤ 256 }
+    ensures new { Decides result (slice_index met.old block ≡ from → ⊥) }
+    ensures after { met.new ≡ slice_set met.old block from }
 {
-    let mut found = figure.alone(block);
-    let mut at = links.head[block as usize];
-    while at > 0 {
-        let i = at as usize - 1;
-        let to = messages[i].to;
-        if first_time(stamp, to, mark) {
-            found = better_through(figure, found, block, to, value_of(best, to));
-        }
-        at = links.next[i];
-    }
-    found
+    let last = mem::replace(&mut met[block as usize], from);
+    last != from
 }
 
 /// The best over all chains from each block of a good order, from its last block to its first.
@@ -119,13 +108,11 @@ fn best_over<F: ChainFigure>(
     ensures bests { BestAtEach (F.meaning figure.now) messages.now order.now best.old best.new }
     ensures chains { (b : ℕ) → In b order.now → Enumerates messages.now (length order.now) b }
 {
-    let links = gather(messages);
-    let mut stamp = [0u16; 257];
-    for k in (0..order.len()).rev() {
-        let block = order[k];
-        let mark = (order.len() - k) as u16;
-        let value = best_from(figure, messages, &links, block, best, &mut stamp, mark);
-        best[block as usize] = value;
+    let links = Links::gather(messages);
+    let mut met = [0; 257]; // no block
+    for block in order.iter().rev() {
+        let value = links.best_from(figure, *block, best, &mut met);
+        best[*block as usize] = value;
     }
 }
 

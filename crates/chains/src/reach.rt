@@ -54,8 +54,8 @@ impl ChainFigure for ReachRow {
 
     fn better(&self, a: [bool; 257], b: [bool; 257]) -> [bool; 257] {
         let mut row = a;
-        for i in 0..257 {
-            row[i] = a[i] | b[i];
+        for (i, entry) in row.iter_mut().enumerate() {
+            *entry |= b[i];
         }
         row
     }
@@ -65,38 +65,26 @@ impl ChainFigure for ReachRow {
 fn with_block(mut row: [bool; 257], block: u32) -> [bool; 257]
     ensures { result ≡ slice_set row block true }
 {
-    let i = block as usize;
-    if i < 257 {
-        row[i] = true;
+    // by the index: of what stands in an array after `get_mut` a proof knows nothing
+    if block < 257 {
+        row[block as usize] = true;
     }
     row
 }
 
-/// What the figure says of each block of the order.
-fn reached_by(figure: &Reach, network: &Network, reached: &mut [bool; 257])
-    ensures { ReachedAtEach network.now.messages.now network.now.order.now figure.now.goal reached.old reached.new }
-{
-    best_from_each(figure, network, reached);
-}
-
-/// What the figure says of each block of the order.
-fn rows_by(figure: &ReachRow, network: &Network, rows: &mut [[bool; 257]; 257])
-    ensures { RowsAtEach network.now.messages.now network.now.order.now rows.old rows.new }
-{
-    best_from_each(figure, network, rows);
-}
-
 /// For each block of the order, whether some chain that begins with it contains the goal. Every other entry stays as it was.
+#[tactic(auto, using(crate::proofs::Reached::reached_at_each))]
 pub fn reaches(network: &Network, goal: u32, reached: &mut [bool; 257])
     ensures { ReachedAtEach network.now.messages.now network.now.order.now goal reached.old reached.new }
 {
-    reached_by(&Reach { goal }, network, reached);
+    best_from_each(&Reach { goal }, network, reached);
 }
 
 /// For each block of the order and each number, whether some chain that begins with the block contains the number.
 /// Every other row stays as it was.
+#[tactic(auto, using(crate::proofs::Reached::rows_at_each))]
 pub fn reach_rows(network: &Network, rows: &mut [[bool; 257]; 257])
     ensures { RowsAtEach network.now.messages.now network.now.order.now rows.old rows.new }
 {
-    rows_by(&ReachRow, network, rows);
+    best_from_each(&ReachRow, network, rows);
 }

@@ -1,6 +1,6 @@
 //! The greatest sums along chains: of block times, and of step costs.
 
-ghost use Rattle.std.specs.Prelude.{◌≡◌, max, slice_index};
+ghost use Rattle.std.specs.Prelude.{◌≡◌};
 ghost use Rattle.chains.specs.Lists.{total};
 ghost use Rattle.chains.specs.Sums.{GreatestAtEach, SmallCosts, SmallTimes, cost_in, steps_total, sum_laws, sums, time_in};
 
@@ -23,16 +23,17 @@ impl<'a> ChainFigure for BlockSums<'a> {
 
     fn alone(&self, block: u32) -> u64 {
         let times = self.times;
-        read(times, block as usize)
+        times.get(block as usize).copied().unwrap_or(0)
     }
 
     fn extend(&self, from: u32, _to: u32, v: u64) -> u64 {
         let times = self.times;
-        read(times, from as usize).saturating_add(v)
+        let time = times.get(from as usize).copied().unwrap_or(0);
+        time.saturating_add(v)
     }
 
     fn better(&self, a: u64, b: u64) -> u64 {
-        greater(a, b)
+        a.max(b)
     }
 }
 
@@ -55,54 +56,30 @@ impl<'a> ChainFigure for StepSums<'a> {
     }
 
     fn extend(&self, from: u32, to: u32, v: u64) -> u64 {
-        read(self.costs, from as usize * 257 + to as usize).saturating_add(v)
+        let i = from as usize * 257 + to as usize;
+        let cost = self.costs.get(i).copied().unwrap_or(0);
+        cost.saturating_add(v)
     }
 
     fn better(&self, a: u64, b: u64) -> u64 {
-        greater(a, b)
+        a.max(b)
     }
-}
-
-/// The greater of two.
-fn greater(a: u64, b: u64) -> u64
-    ensures { result ≡ max a b }
-{
-    a.max(b)
-}
-
-/// The number at a place of a table, 0 past its end.
-fn read(table: &[u64], i: usize) -> u64
-    ensures { result ≡ slice_index table.now i }
-{
-    if i < table.len() { table[i] } else { 0 }
-}
-
-/// What the figure says of each block of the order.
-fn block_sums(figure: &BlockSums, network: &Network, greatest: &mut [u64; 257])
-    ensures { GreatestAtEach (total (time_in figure.now.times.now)) (SmallTimes network.now.order.now (time_in figure.now.times.now)) network.now.messages.now network.now.order.now greatest.old greatest.new }
-{
-    best_from_each(figure, network, greatest);
-}
-
-/// What the figure says of each block of the order.
-fn step_sums(figure: &StepSums, network: &Network, greatest: &mut [u64; 257])
-    ensures { GreatestAtEach (steps_total (cost_in figure.now.costs.now)) (SmallCosts network.now.messages.now (cost_in figure.now.costs.now)) network.now.messages.now network.now.order.now greatest.old greatest.new }
-{
-    best_from_each(figure, network, greatest);
 }
 
 /// For each block of the order, the greatest sum of block times over the chains that begin with it, no more than
 /// fits a u64; where every time is below 2^56, that is the greatest sum itself. Every other entry stays as it was.
+#[tactic(auto, using(crate::proofs::Greatest::block_sums_at_each))]
 pub fn greatest_block_sums(network: &Network, times: &[u64; 257], greatest: &mut [u64; 257])
     ensures { GreatestAtEach (total (time_in times.now)) (SmallTimes network.now.order.now (time_in times.now)) network.now.messages.now network.now.order.now greatest.old greatest.new }
 {
-    block_sums(&BlockSums { times }, network, greatest);
+    best_from_each(&BlockSums { times }, network, greatest);
 }
 
 /// For each block of the order, the greatest sum of step costs over the chains that begin with it, no more than
 /// fits a u64; where every step costs less than 2^56, that is the greatest sum itself. Every other entry stays as it was.
+#[tactic(auto, using(crate::proofs::Greatest::step_sums_at_each))]
 pub fn greatest_step_sums(network: &Network, costs: &[u64], greatest: &mut [u64; 257])
     ensures { GreatestAtEach (steps_total (cost_in costs.now)) (SmallCosts network.now.messages.now (cost_in costs.now)) network.now.messages.now network.now.order.now greatest.old greatest.new }
 {
-    step_sums(&StepSums { costs }, network, greatest);
+    best_from_each(&StepSums { costs }, network, greatest);
 }

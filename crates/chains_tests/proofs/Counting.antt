@@ -2,9 +2,9 @@
 use Rattle.std.proofs.Common.{◌≡◌, ℕ, zero, suc, ◌+◌, ◌%◌, ◌^◌, ◌<◌, List, [], ◌∷◌, map, length, fold, refl, ap, ◌∙◌, arith}
 use Rattle.std.specs.List.{flat_map}
 use Rattle.chains.specs.Chains.{successors, rests, chains}
-use Rattle.chains.specs.Figures.{value_from, value, best}
+use Rattle.chains.specs.Figures.{BestAtEach, value_from, value, best}
 use Rattle.chains.specs.declared.message.Message.{Message}
-use Rattle.chains_tests.specs.Counts.{counts}
+use Rattle.chains_tests.specs.Counts.{CountedAtEach, counts}
 
 one : (b : ℕ) (r : List ℕ) → value_from counts b r ≡ 1
 one b [] = refl
@@ -29,3 +29,10 @@ best_counts ms (suc n) b =
     let more = map (λ r. b ∷ r) (flat_map (λ s. map (λ r. s ∷ r) (rests ms n s)) (successors ms b)) in
     let e : fold counts.better 1 (map (value counts) more) ≡ (1 + length more) % 2 ^ 64 = counted 1 more (omega arith) in
     e ∙ ap (λ k. k % 2 ^ 64) (let z : 1 + length more ≡ suc (length more) = omega arith in z)
+
+-- what a run of the figure leaves
+pub counted_at_each : (ms : List Message) (order before after : List ℕ) → BestAtEach counts ms order before after → CountedAtEach ms order before after
+counted_at_each ms order before after h = record {
+  found = λ b i. h.values b 0 i ∙ best_counts ms (length order) b;
+  kept = λ b out. h.kept b 0 out;
+}

@@ -31,16 +31,10 @@ impl ChainFigure for Count {
     }
 }
 
-/// What the figure says of each block of the order.
-fn counted_by(figure: &Count, network: &Network, count: &mut [u64; 257])
-    ensures { CountedAtEach network.now.messages.now network.now.order.now count.old count.new }
-{
-    best_from_each(figure, network, count);
-}
-
 /// For each block of the order, how many chains begin with it, modulo 2^64. Every other entry stays as it was.
+#[tactic(auto, using(crate::proofs::Counting::counted_at_each))]
 pub fn count_chains(network: &Network, count: &mut [u64; 257])
     ensures { CountedAtEach network.now.messages.now network.now.order.now count.old count.new }
 {
-    counted_by(&Count, network, count);
+    best_from_each(&Count, network, count);
 }

@@ -3,6 +3,8 @@
 ghost use Rattle.std.specs.Prelude.{Decides};
 ghost use Rattle.chains.specs.Chains.{Ordered};
 
+use std::array;
+
 use crate::count::count_chains;
 use chains::message::Message;
 use chains::network::Network;
@@ -125,36 +127,33 @@ fn several_messages_are_one_step(rt: HostRuntime) {
 
 // Thirty diamonds in a row: block 3i + 1 to 3i + 2 and 3i + 3, both of these to 3i + 4.
 fn ladder() -> [Message; 120] {
-    let mut messages = [message(1, 2); 120];
-    for i in 0..30 {
-        let top = 3 * i as u32 + 1;
-        messages[4 * i] = message(top, top + 1);
-        messages[4 * i + 1] = message(top, top + 2);
-        messages[4 * i + 2] = message(top + 1, top + 3);
-        messages[4 * i + 3] = message(top + 2, top + 3);
-    }
-    messages
+    array::from_fn(|k| {
+        let top = 3 * (k / 4) as u32 + 1;
+        match k % 4 {
+            0 => message(top, top + 1),
+            1 => message(top, top + 2),
+            2 => message(top + 1, top + 3),
+            _ => message(top + 2, top + 3),
+        }
+    })
 }
 
 // The blocks 1, 2, 3 and so on.
 fn rising<const N: usize>() -> [u32; N] {
     let mut order = [0; N];
-    let mut next = 1u32;
-    for b in order.iter_mut() {
-        *b = next;
-        next = next.wrapping_add(1);
+    for (b, block) in order.iter_mut().zip(1u32..) {
+        *b = block;
     }
     order
 }
 
 // The times of the ladder: 5 at every second side, 2 at the other, 1 elsewhere.
 fn ladder_times() -> [u64; 257] {
-    let mut times = [1u64; 257];
-    for i in 0..30 {
-        times[3 * i + 2] = 2;
-        times[3 * i + 3] = 5;
-    }
-    times
+    array::from_fn(|b| match b % 3 {
+        2 if b <= 90 => 2,
+        0 if 1 <= b && b <= 90 => 5,
+        _ => 1,
+    })
 }
 
 #[test]
@@ -179,11 +178,7 @@ fn a_ladder_of_thirty_diamonds(rt: HostRuntime) {
 
 // Block 1 to every other.
 fn fan() -> [Message; 255] {
-    let mut messages = [message(1, 2); 255];
-    for i in 0..255 {
-        messages[i] = message(1, i as u32 + 2);
-    }
-    messages
+    array::from_fn(|i| message(1, i as u32 + 2))
 }
 
 #[test]

@@ -1,52 +1,39 @@
 //! An order that was not proved good is tested.
 
-ghost use Rattle.std.specs.Prelude.{◌≡◌, ℕ, ◌<◌, ◌≤◌, length, Decides, MatchOption, slice_index};
+ghost use Rattle.std.specs.Prelude.{◌≡◌, ℕ, ◌<◌, ◌≤◌, length, Decides, MatchOption};
 ghost use Rattle.chains.specs.Chains.{Blocks, Once, Ordered};
 ghost use Rattle.chains.specs.Links.{Before, Numbered, message_at};
 
 use crate::message::Message;
 
-/// The entry of a block in a table, 0 past its end.
-fn entry(table: &[u16; 257], block: u32) -> u16
-    ensures { result ≡ slice_index table.now block }
-{
-    let i = block as usize;
-    if i < 257 { table[i] } else { 0 }
-}
-
 /// Whether the table has the sender before the receiver.
-fn goes_forward(m: &Message, places: &[u16; 257]) -> bool
+fn goes_forward(m: &Message, places: &[Option<u16>; 257]) -> bool
     ensures { Decides result (Before places.now m.now) }
 {
-    let from = entry(places, m.from);
-    let to = entry(places, m.to);
-    0 < from && from < to
+    let from = places.get(m.from as usize).copied().flatten();
+    let to = places.get(m.to as usize).copied().flatten();
+    from.zip(to).is_some_and(|(from, to)| from < to)
 }
 
 /// Whether every message goes forward.
-fn all_forward(messages: &[Message], places: &[u16; 257]) -> bool
+fn all_forward(messages: &[Message], places: &[Option<u16>; 257]) -> bool
     ensures { Decides result ((i : ℕ) → i < length messages.now → Before places.now (message_at messages.now i)) }
 {
-    for m in messages {
-        if !goes_forward(m, places) {
-            return false;
-        }
-    }
-    true
+    messages.iter().all(|m| goes_forward(m, places))
 }
 
-/// The places of the blocks of an order, counted from 1; nothing where a number is no block's or stands twice.
-fn places_of(order: &[u32]) -> Option<[u16; 257]>
+/// The places of the blocks of an order; nothing where a number is no block's or stands twice.
+fn places_of(order: &[u32]) -> Option<[Option<u16>; 257]>
     requires { length order.now ≤ 256 }
     ensures { MatchOption result (Blocks order.now → Once order.now → ⊥) (Numbered order.now) }
 {
-    let mut places = [0u16; 257];
+    let mut places = [None; 257];
     for (k, b) in order.iter().enumerate() {
         let block = *b as usize;
-        if block == 0 || block > 256 || places[block] != 0 {
+        if block == 0 || block > 256 || places[block].is_some() {
             return None;
         }
-        places[block] = k as u16 + 1;
+        places[block] = Some(k as u16);
     }
     Some(places)
 }
@@ -58,8 +45,9 @@ pub fn is_processing_order(messages: &[Message], order: &[u32]) -> bool
     if messages.len() > 1024 || order.len() > 256 {
         return false;
     }
-    match places_of(order) {
-        Some(places) => all_forward(messages, &places),
-        None => false,
-    }
+    // no `is_some_and`, tried: a closure that lends its own argument tells the proof nothing of its answer
+    let Some(places) = places_of(order) else {
+        return false;
+    };
+    all_forward(messages, &places)
 }

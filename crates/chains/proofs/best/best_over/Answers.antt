@@ -1,85 +1,95 @@
-use Rattle.std.proofs.Common.{◌≡◌, ℕ, ◌+◌, ◌-◌, ◌<◌, ◌≤◌, length, get_or, replicate, sym, refl, ◌∙◌, subst, arith, rules}
-use Rattle.std.proofs.lemmas.List.{get_or-set_other}
+use Rattle.std.proofs.Common.{◌≡◌, ℕ, ◌+◌, ◌≤◌, Option, None, map, length, fold, get_or, replicate, take, sym, refl, ap, ◌∙◌, subst, ⊎_elim, arith, rules}
+use Rattle.std.specs.Iterator.Adapters.{rev_source}
+use Rattle.std.specs.Slice.Iter.{iter_rest}
+use Rattle.std.proofs.lemmas.List.{get_or-set_other, take_all}
+use Rattle.std.proofs.lemmas.Bool.{cases_eq}
 use Rattle.chains.specs.Lists.{In}
-use Rattle.chains.proofs.Lists.{in_getD, in_place, all_same}
-use Rattle.chains.proofs.Orders.{ends, block_before}
+use Rattle.chains.specs.Chains.{place, successors}
+use Rattle.chains.proofs.Lists.{in_place, all_same}
+use Rattle.chains.proofs.Orders.{Last, ends, last}
 use Rattle.chains.proofs.Bests.{Done, done_more}
 use Rattle.chains.proofs.Every.{enumerates}
 use Rattle.chains.proofs.best.best_over.Goals as goal
 
-pub gather-links-requires : goal.gather-links-requires
-gather-links-requires g c = record { few = c.requires.few; senders = λ i l. (ends c.args.messages.now c.args.order.now c.requires i l).0 }
+pub gather-links-requires-clause-ends : goal.gather-links-requires-clause-ends
+gather-links-requires-clause-ends g c = ends c.args.messages.now c.args.order.now c.requires
 
-pub loop-k-init : goal.loop-k-init
-loop-k-init g c = (
-  λ d b n low within long. absurd (omega arith),
-  λ b d no. refl,
-  λ s. let z : ◌≡◌ {A = ℕ} (get_or (replicate 257 0) s 0) 0 = all_same {A = ℕ} 0 257 s in omega arith,
-)
+pub loop-block-init : goal.loop-block-init
+loop-block-init g c =
+    let order = c.args.order.now in
+    let rest = iter_rest (rev_source c.into_iter-block-iterator.result) in
+    let all : rest ≡ order = ap (λ i. iter_rest (rev_source i)) c.into_iter-block-iterator.ensures.into_iter_gives ∙ ap iter_rest c.rev-block-items.ensures.source ∙ c.iter.ensures.rest in
+    let long : length rest ≡ length order = ap length all in (
+      ap (λ r. take (length r) order) all ∙ take_all (length order) order (omega arith) ∙ sym all,
+      λ d b n low within _. absurd (omega arith),
+      λ b d _. refl,
+      λ s b q low. let none : ◌≡◌ {A = ℕ} (get_or (replicate 257 0) s 0) 0 = all_same {A = ℕ} 0 257 s in absurd (omega arith),
+    )
 
 pub best_from-value-requires : goal.best_from-value-requires
 best_from-value-requires g c =
-    let here = block_before c.args.messages.now c.args.order.now c.requires c.loop-k.k c.loop-k-test.true c.loop-k.auto.k in (
+    let order = c.args.order.now in
+    let b = c.in-Some.block.now in
+    let t = last c.args.messages.now order c.requires _ _ b c.loop-block.invariant.0 c.in-Some.ensures.steps in
+    let most : b ≤ 256 = t.most in (
       search rules,
       (
-        c.requires.few,
-        (
-          c.gather-links.ensures,
-          (
-            (λ i l. (ends c.args.messages.now c.args.order.now c.requires i l).1),
-            (
-              here.1,
-              λ s. let low = c.loop-k.invariant.2 s in omega (arith, low, c.loop-k-test.true, c.loop-k.auto.k),
-            ),
-          ),
-        ),
+        most,
+        λ s q. let longer : length (iter_rest (rev_source c.loop-block.block-iterator)) ≡ length (iter_rest (rev_source c.next.new.self)) + 1 = t.longer in
+            let after : place order b ≡ length (iter_rest (rev_source c.next.new.self)) = t.after in
+            let met : length (iter_rest (rev_source c.loop-block.block-iterator)) ≤ place order b = c.loop-block.invariant.3 s b q t.low in
+            omega arith,
       ),
     )
 
 pub offset_bounds-best-block : goal.offset_bounds-best-block
 offset_bounds-best-block g c =
-    let k = c.loop-k.k in
-    let most : get_or c.args.order.now (k - 1) 0 ≤ 256 = (block_before c.args.messages.now c.args.order.now c.requires k c.loop-k-test.true c.loop-k.auto.k).1 in
+    let most : c.in-Some.block.now ≤ 256 = (last c.args.messages.now c.args.order.now c.requires _ _ _ c.loop-block.invariant.0 c.in-Some.ensures.steps).most in
     search rules
 
 pub listed : goal.listed
 listed g c =
-    let k = c.loop-k.k in
-    let most : get_or c.args.order.now (k - 1) 0 ≤ 256 = (block_before c.args.messages.now c.args.order.now c.requires k c.loop-k-test.true c.loop-k.auto.k).1 in
+    let most : c.in-Some.block.now ≤ 256 = (last c.args.messages.now c.args.order.now c.requires _ _ _ c.loop-block.invariant.0 c.in-Some.ensures.steps).most in
     omega (arith, c.type_inv.best)
 
 pub bounds-best-block : goal.bounds-best-block
 bounds-best-block g c =
-    let k = c.loop-k.k in
-    let most : get_or c.args.order.now (k - 1) 0 ≤ 256 = (block_before c.args.messages.now c.args.order.now c.requires k c.loop-k-test.true c.loop-k.auto.k).1 in
+    let most : c.in-Some.block.now ≤ 256 = (last c.args.messages.now c.args.order.now c.requires _ _ _ c.loop-block.invariant.0 c.in-Some.ensures.steps).most in
     omega arith
 
-pub loop-k-preserved : goal.loop-k-preserved
-loop-k-preserved g c =
+pub loop-block-preserved : goal.loop-block-preserved
+loop-block-preserved g c =
     let m = g.F.ChainFigure in
     let f = c.args.figure.now in
     let ms = c.args.messages.now in
     let order = c.args.order.now in
-    let k = c.loop-k.k in
-    let b = get_or order (k - 1) 0 in
-    let lt : k - 1 < length order = (block_before ms order c.requires k c.loop-k-test.true c.loop-k.auto.k).0 in
-    let up : k ≡ (k - 1) + 1 = omega (arith, c.loop-k-test.true) in
-    let long : length c.loop-k.best ≡ 257 = search rules in
-    let D : ℕ → Type 0 = λ j. Done (m.meaning f) ms order c.loop-k.best j in
+    let b = c.in-Some.block.now in
+    let less = iter_rest (rev_source c.next.new.self) in
+    let t : Last order (iter_rest (rev_source c.loop-block.block-iterator)) less b = last ms order c.requires _ _ b c.loop-block.invariant.0 c.in-Some.ensures.steps in
+    let size : length c.loop-block.best ≡ 257 = search rules in
+    let D : ℕ → Type 0 = λ j. Done (m.meaning f) ms order c.loop-block.best j in
     let In-order : ℕ → Type 0 = λ y. In y order in (
-      done_more (m.meaning f) (m.laws f) ms order c.requires c.loop-k.best (k - 1) c.best_from-value.result lt long (subst D up c.loop-k.invariant.0) c.best_from-value.ensures.value,
-      (λ x d no. get_or-set_other c.loop-k.best b x c.best_from-value.result d (λ e. no (subst In-order (sym e) (in_getD order (k - 1) 0 lt))) ∙ c.loop-k.invariant.1 x d no),
-      c.best_from-value.ensures.stamped,
+      t.front,
+      done_more (m.meaning f) (m.laws f) ms order c.requires c.loop-block.best (length less) b c.best_from-value.result t.inside t.at size (subst D t.longer c.loop-block.invariant.1)
+          (λ d. c.best_from-value.ensures.value d ∙ ap (λ m'. fold (m.meaning f).better ((m.meaning f).alone b) (map (λ s. (m.meaning f).extended b s (get_or c.loop-block.best s d)) (successors m' b))) c.gather-links.ensures),
+      λ x d no. get_or-set_other c.loop-block.best b x c.best_from-value.result d (λ e. no (subst In-order (sym e) t.listed)) ∙ c.loop-block.invariant.2 x d no,
+      λ s x q low. ⊎_elim
+          (λ (e : x ≡ b). let after : place order x ≡ length less = ap (place order) e ∙ t.after in omega arith)
+          (λ (n : x ≡ b → ⊥).
+          let longer : length (iter_rest (rev_source c.loop-block.block-iterator)) ≡ length less + 1 = t.longer in
+          let met : length (iter_rest (rev_source c.loop-block.block-iterator)) ≤ place order x = c.loop-block.invariant.3 s x (sym (c.best_from-value.ensures.others s (λ e. n (sym q ∙ e))) ∙ q) low in
+          omega arith)
+          (cases_eq x b),
     )
 
-pub returns : goal.returns
-returns g c =
+pub returns-clause-bests : goal.returns-clause-bests
+returns-clause-bests g c =
     let order = c.args.order.now in
-    let none : c.loop-k.k ≡ 0 = omega arith in
+    let none : length (iter_rest (rev_source c.loop-block.block-iterator)) ≡ 0 = c.in-None.ensures.steps.0 in
     record {
-      bests = record {
-        values = λ b d i. c.loop-k.invariant.0 d b (length order) (omega arith) (in_place order b i) (omega arith);
-        kept = c.loop-k.invariant.1;
-      };
-      chains = λ b i. enumerates c.args.messages.now order c.requires b i;
+      values = λ b d i. c.loop-block.invariant.1 d b (length order) (omega arith) (in_place order b i) (omega arith);
+      kept = c.loop-block.invariant.2;
     }
+
+pub returns-clause-chains : goal.returns-clause-chains
+returns-clause-chains g c = λ b i. enumerates c.args.messages.now c.args.order.now c.requires b i

@@ -1,5 +1,0 @@
-use Rattle.chains.proofs.Links.{Gathered}
-use Rattle.chains.proofs.best.gather.Given as goal
-
-abbrev pub invariant-loop-i : goal.invariant-loop-i
-invariant-loop-i l = Gathered l.messages l.links.head l.links.next l.i

@@ -1,5 +1,5 @@
 /// What one block sends to another.
-#[derive(Clone, Copy)]
+#[derive(Clone, Copy, Default)]
 pub struct Message {
     pub from: u32,
     pub to: u32,

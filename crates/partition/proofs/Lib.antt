@@ -4,7 +4,6 @@ pub mod Reached
 pub mod Renamed
 pub mod Joined
 pub mod Summing
-pub mod Answered
 pub mod Handling
 pub mod Counting
 pub mod Levels

@@ -1,7 +1,6 @@
-use Rattle.std.proofs.Common.{ℕ, refl, ◌∙◌, arith}
+use Rattle.std.proofs.Common.{◌≡◌, slice_index_or, rules, ℕ, refl, ◌∙◌, arith}
 use Rattle.std.proofs.lemmas.List.{length-replicate, get_or-replicate}
 use Rattle.chains.proofs.Lists.{in_getD}
-use Rattle.partition.proofs.Answered.{sized_is}
 use Rattle.partition.proofs.Handling.{fair_as}
 use Rattle.partition.proofs.Summing.{over_fits, over_fits_too, over_more, over_room}
 use Rattle.partition.proofs.partition.crossings.Crossings.overheads.Goals as goal
@@ -19,7 +18,8 @@ add_at-requires g c =
     let f = fair_as c.args.self.now _ c.as_slice-message-items.ensures in
     let i = c.loop-message.message-index in
     let good = f.handled _ (in_getD _ i (record { from = 0; to = 0; size = 0 }) c.loop-message-test.true) in
-    let read = sized_is _ _ _ _ good.2 c.reading.ensures c.unwrap_or-reading.ensures in
+    let size = good.2 in
+    let read : c.unwrap_or-reading.result ≡ m.reading (slice_index_or c.as_slice-message-items.result.now c.loop-message.message-index (record { from = 0; to = 0; size = 0 })).size = search rules in
     record {
       known = good.1;
       fits = over_fits m law _ f.few f.handled c.loop-message.table i c.loop-message.invariant _ _ good.1 (omega (arith, read, law.reads _ good.2));
@@ -32,8 +32,9 @@ add_at-requires-in-loop-message g c =
     let f = fair_as c.args.self.now _ c.as_slice-message-items.ensures in
     let i = c.loop-message.message-index in
     let good = f.handled _ (in_getD _ i (record { from = 0; to = 0; size = 0 }) c.loop-message-test.true) in
-    let read = sized_is _ _ _ _ good.2 c.reading.ensures c.unwrap_or-reading.ensures in
-    let written = sized_is _ _ _ _ good.2 c.writing.ensures c.unwrap_or-writing.ensures in
+    let size = good.2 in
+    let read : c.unwrap_or-reading.result ≡ m.reading (slice_index_or c.as_slice-message-items.result.now c.loop-message.message-index (record { from = 0; to = 0; size = 0 })).size = search rules in
+    let written : c.unwrap_or-writing.result ≡ m.writing (slice_index_or c.as_slice-message-items.result.now c.loop-message.message-index (record { from = 0; to = 0; size = 0 })).size = search rules in
     record {
       known = good.0;
       fits = over_fits_too m law _ f.few f.handled c.loop-message.table i c.loop-message.invariant c.loop-message-test.true _ refl _ _ read written c.add_at.new.table _ c.add_at.ensures refl;
@@ -46,8 +47,9 @@ loop-message-preserved g c =
     let f = fair_as c.args.self.now _ c.as_slice-message-items.ensures in
     let i = c.loop-message.message-index in
     let good = f.handled _ (in_getD _ i (record { from = 0; to = 0; size = 0 }) c.loop-message-test.true) in
-    let read = sized_is _ _ _ _ good.2 c.reading.ensures c.unwrap_or-reading.ensures in
-    let written = sized_is _ _ _ _ good.2 c.writing.ensures c.unwrap_or-writing.ensures in
+    let size = good.2 in
+    let read : c.unwrap_or-reading.result ≡ m.reading (slice_index_or c.as_slice-message-items.result.now c.loop-message.message-index (record { from = 0; to = 0; size = 0 })).size = search rules in
+    let written : c.unwrap_or-writing.result ≡ m.writing (slice_index_or c.as_slice-message-items.result.now c.loop-message.message-index (record { from = 0; to = 0; size = 0 })).size = search rules in
     over_more m law _ f.few f.handled c.loop-message.table i c.loop-message.invariant c.loop-message-test.true _ refl _ _ read written
     c.add_at.new.table c.add_at-in-loop-message.new.table c.add_at.ensures c.add_at-in-loop-message.ensures
 

@@ -1,7 +1,8 @@
-use Rattle.std.proofs.Common.{ℕ, ◌+◌, ◌*◌, refl}
+use Rattle.std.proofs.Common.{slice_index_or, arith, ℕ, ◌+◌, ◌*◌, refl}
 use Rattle.std.proofs.lemmas.List.{length-replicate}
 use Rattle.chains.proofs.Lists.{in_getD, all_same}
-use Rattle.partition.proofs.Answered.{greatest_is}
+use Rattle.std.proofs.lemmas.Grind.{common_steps}
+use Rattle.machine.specs.Greatest.{GreatestDelay}
 use Rattle.partition.proofs.Delays.{costs_more}
 use Rattle.partition.proofs.Handling.{fair_as}
 use Rattle.partition.proofs.partition.crossings.Crossings.step_costs.Goals as goal
@@ -21,5 +22,6 @@ loop-message-preserved g c =
     let f = fair_as c.args.self.now _ c.as_slice-message-items.ensures in
     let i = c.loop-message.message-index in
     let good = f.handled _ (in_getD _ i (record { from = 0; to = 0; size = 0 }) c.loop-message-test.true) in
-    let most = greatest_is m _ _ _ good.2 c.greatest_delay.ensures c.unwrap_or-delay.ensures in
+    let size = good.2 in
+    let most : GreatestDelay m (slice_index_or c.as_slice-message-items.result.now c.loop-message.message-index (record { from = 0; to = 0; size = 0 })).size c.unwrap_or-delay.result = grind (arith, common_steps) in
     costs_more m _ c.loop-message.table i f.handled c.loop-message-test.true c.loop-message.invariant _ refl _ most c.raise_at.new.table c.raise_at.ensures

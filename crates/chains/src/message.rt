@@ -1,5 +1,5 @@
 /// What one block sends to another.
-#[derive(Clone, Copy, Debug, PartialEq, Eq)]
+#[derive(Clone, Copy, Debug, Default, PartialEq, Eq)]
 pub struct Message {
     pub from: u32,
     pub to: u32,

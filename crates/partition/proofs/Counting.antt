@@ -1,8 +1,8 @@
 -- The list of all blocks, and how many there are.
-use Rattle.std.proofs.Common.{◌≡◌, ℕ, zero, suc, ◌<◌, ◌≤◌, Bool, false, cond, not, eqb, List, [], ◌∷◌, length, filter, sym, refl, ap, subst, inl, inr, ⊎_elim, arith}
+use Rattle.std.proofs.Common.{◌≡◌, ℕ, zero, suc, ◌+◌, ◌<◌, ◌≤◌, Bool, false, cond, not, eqb, List, [], ◌∷◌, length, filter, sym, refl, ap, subst, inl, inr, ⊎_elim, arith}
 use Rattle.std.proofs.lemmas.Bool.{cases_eq, cases_Bool, eq-eqb, ne_eqb, cond-true, cond-false}
 use Rattle.chains.specs.Chains.{place, Once}
-use Rattle.chains.specs.Lists.{In, Apart}
+use Rattle.chains.specs.Lists.{In, Apart, total}
 use Rattle.chains.proofs.Lists.{in_left, in_right, in_append, apart_append, once_apart, place_in}
 use Rattle.partition.specs.Blocks.{block_of, blocks_among, block_list}
 use Rattle.partition.specs.Views.{Listed, Numbered}
@@ -49,40 +49,56 @@ apart_among blocks (suc n) =
     apart_append (blocks_among blocks n) (one blocks (suc n)) (apart_among blocks n) (apart_one blocks (suc n))
     (λ x i j. omega (arith, (of_among blocks n x i).1, (of_one blocks (suc n) x j).0))
 
-kept_le : (p : ℕ → Bool) (ys : List ℕ) → length (filter p ys) ≤ length ys
-kept_le p [] = omega arith
-kept_le p (y ∷ ys) =
+-- what a test keeps sums to no more
+kept_le : (f : ℕ → ℕ) (p : ℕ → Bool) (ys : List ℕ) → total f (filter p ys) ≤ total f ys
+kept_le f p [] = omega arith
+kept_le f p (y ∷ ys) =
     ⊎_elim
-    (λ e. subst (λ (zs : List ℕ). length zs ≤ length (y ∷ ys)) (sym (cond-true (p y) (y ∷ filter p ys) (filter p ys) e)) (omega (arith, kept_le p ys)))
-    (λ e. subst (λ (zs : List ℕ). length zs ≤ length (y ∷ ys)) (sym (cond-false (p y) (y ∷ filter p ys) (filter p ys) e)) (omega (arith, kept_le p ys)))
+    (λ e. subst (λ (zs : List ℕ). total f zs ≤ total f (y ∷ ys)) (sym (cond-true (p y) (y ∷ filter p ys) (filter p ys) e)) (omega (arith, kept_le f p ys)))
+    (λ e. subst (λ (zs : List ℕ). total f zs ≤ total f (y ∷ ys)) (sym (cond-false (p y) (y ∷ filter p ys) (filter p ys) e)) (omega (arith, kept_le f p ys)))
     (cases_Bool (p y))
 
--- a test that one of a list does not pass keeps fewer
-kept_less : (p : ℕ → Bool) (ys : List ℕ) (x : ℕ) → In x ys → p x ≡ false → length (filter p ys) < length ys
-kept_less p [] x i f = absurd i
-kept_less p (y ∷ ys) x i f =
+-- a test that one of a list does not pass keeps less
+kept_less : (f : ℕ → ℕ) (p : ℕ → Bool) (ys : List ℕ) (x : ℕ) → In x ys → p x ≡ false → f x + total f (filter p ys) ≤ total f ys
+kept_less f p [] x i out = absurd i
+kept_less f p (y ∷ ys) x i out =
     ⊎_elim
-    (λ (e : x ≡ y). subst (λ (zs : List ℕ). length zs < length (y ∷ ys)) (sym (cond-false (p y) (y ∷ filter p ys) (filter p ys) (subst (λ k. p k ≡ false) e f))) (omega (arith, kept_le p ys)))
+    (λ (e : x ≡ y). subst (λ (zs : List ℕ). f x + total f zs ≤ total f (y ∷ ys)) (sym (cond-false (p y) (y ∷ filter p ys) (filter p ys) (subst (λ k. p k ≡ false) e out))) (omega (arith, ap f e, kept_le f p ys)))
     (λ j. ⊎_elim
-    (λ e. subst (λ (zs : List ℕ). length zs < length (y ∷ ys)) (sym (cond-true (p y) (y ∷ filter p ys) (filter p ys) e)) (omega (arith, kept_less p ys x j f)))
-    (λ e. subst (λ (zs : List ℕ). length zs < length (y ∷ ys)) (sym (cond-false (p y) (y ∷ filter p ys) (filter p ys) e)) (omega (arith, kept_less p ys x j f)))
+    (λ e. subst (λ (zs : List ℕ). f x + total f zs ≤ total f (y ∷ ys)) (sym (cond-true (p y) (y ∷ filter p ys) (filter p ys) e)) (omega (arith, kept_less f p ys x j out)))
+    (λ e. subst (λ (zs : List ℕ). f x + total f zs ≤ total f (y ∷ ys)) (sym (cond-false (p y) (y ∷ filter p ys) (filter p ys) e)) (omega (arith, kept_less f p ys x j out)))
     (cases_Bool (p y)))
     i
 
--- a list without repeats is no longer than one that has all of it
-pub no_longer : (xs ys : List ℕ) → Apart xs → ((x : ℕ) → In x xs → In x ys) → length xs ≤ length ys
-no_longer [] ys a sub = omega arith
-no_longer (x ∷ xs) ys a sub =
+-- a list without repeats sums to no more than one that has all of it
+no_more : (f : ℕ → ℕ) (xs ys : List ℕ) → Apart xs → ((x : ℕ) → In x xs → In x ys) → total f xs ≤ total f ys
+no_more f [] ys a sub = omega arith
+no_more f (x ∷ xs) ys a sub =
     let p : ℕ → Bool = λ y. not (eqb y x) in
     let self : p x ≡ false = ap not (eq-eqb x x refl) in
-    let rest = no_longer xs (filter p ys) a.1 (λ y i. in_kept p ys y (sub y (inr i)) (ap not (ne_eqb y x (λ e. a.0 (subst (λ k. In k xs) e i))))) in
-    omega (arith, rest, kept_less p ys x (sub x (inl refl)) self)
+    let rest = no_more f xs (filter p ys) a.1 (λ y i. in_kept p ys y (sub y (inr i)) (ap not (ne_eqb y x (λ e. a.0 (subst (λ k. In k xs) e i))))) in
+    omega (arith, rest, kept_less f p ys x (sub x (inl refl)) self)
 
--- a processing order has as many places as there are blocks
-pub counted : (blocks order : List ℕ) → Once order → Listed (length blocks) blocks order → Numbered (length blocks) blocks order → length (block_list blocks) ≡ length order
-counted blocks order once listed numbered =
-    let n = length blocks in
-    let le = no_longer (block_list blocks) order (apart_among blocks n)
-    (λ x i. let r = of_among blocks n x i in place_in order x (subst (λ k. place order k < length order) r.2 (listed x r.0 r.1))) in
-    let ge = no_longer order (block_list blocks) (once_apart order once) (λ x i. let r = numbered x i in in_among blocks n x r.0 r.1 r.2) in
-    omega (arith, le, ge)
+ones : (xs : List ℕ) → length xs ≡ total (λ (x : ℕ). 1) xs
+ones [] = refl
+ones (x ∷ xs) = omega (arith, ones xs)
+
+-- and is no longer
+pub no_longer : (xs ys : List ℕ) → Apart xs → ((x : ℕ) → In x xs → In x ys) → length xs ≤ length ys
+no_longer xs ys a sub = omega (arith, no_more (λ _. 1) xs ys a sub, ones xs, ones ys)
+
+-- a processing order has each block once, and nothing else
+module _ (blocks order : List ℕ) (once : Once order) (listed : Listed (length blocks) blocks order) (numbered : Numbered (length blocks) blocks order) where
+  pub to_order : (x : ℕ) → In x (block_list blocks) → In x order
+  to_order x i = let r = of_among blocks (length blocks) x i in place_in order x (subst (λ k. place order k < length order) r.2 (listed x r.0 r.1))
+
+  pub of_order : (x : ℕ) → In x order → In x (block_list blocks)
+  of_order x i = let r = numbered x i in in_among blocks (length blocks) x r.0 r.1 r.2
+
+  pub order_total : (f : ℕ → ℕ) → total f order ≡ total f (block_list blocks)
+  order_total f =
+      omega (arith, no_more f order (block_list blocks) (once_apart order once) of_order, no_more f (block_list blocks) order (apart_among blocks (length blocks)) to_order)
+
+  -- it has as many places as there are blocks
+  pub counted : length (block_list blocks) ≡ length order
+  counted = omega (arith, ones order, ones (block_list blocks), order_total (λ _. 1))

@@ -12,11 +12,11 @@ use Rattle.partition.specs.declared.partition.Partition.{Partition}
 use Rattle.partition.specs.Blocks.{block_of, blocks_among, block_list, messages, Ascending, EachBlock}
 use Rattle.partition.specs.Costs.{greatest_below, farthest, step_cost, delay_chain}
 use Rattle.partition.specs.Greatest.{GreatestOver, GreatestStep}
-use Rattle.partition.specs.Views.{Own, Least, Listed, Numbered}
+use Rattle.partition.specs.Views.{Own, Least}
 use Rattle.partition.proofs.Convexity.{step_up}
 use Rattle.partition.proofs.Counting.{of_among, in_among, counted}
 use Rattle.partition.proofs.Delays.{below_ge, farthest_ge}
-use Rattle.partition.proofs.Handling.{ordered}
+use Rattle.partition.proofs.Handling.{ordered, listed, numbered}
 use Rattle.partition.proofs.Levels.{greatest_ge, greatest_le}
 
 -- the greatest over a list is 0, or one of the list has it
@@ -184,18 +184,12 @@ module _ (p : Partition) where
   abbrev ms : List Message
   ms = messages p.links.now bs
 
-  listed : Listed (length bs) bs p.order.now
-  listed = subst (λ n. Listed n bs p.order.now) (sym p.all) p.listed
-
-  numbered : Numbered (length bs) bs p.order.now
-  numbered = subst (λ n. Numbered n bs p.order.now) (sym p.all) p.numbered
-
   pub chains_greatest : (f : List ℕ → ℕ) (b : ℕ) → In b (block_list bs) → GreatestFrom ms b f (greatest f (chains ms (length (block_list bs)) b))
   chains_greatest f b i =
       let order = p.order.now in
       let r = of_among bs (length bs) b i in
-      from_block ms order (ordered p) (length (block_list bs)) (counted bs order p.once listed numbered) f b
-      (place_in order b (subst (λ k. place order k < length order) r.2 (listed b r.0 r.1)))
+      from_block ms order (ordered p) (length (block_list bs)) (counted bs order p.once (listed p) (numbered p)) f b
+      (place_in order b (subst (λ k. place order k < length order) r.2 (listed p b r.0 r.1)))
 
   pub blocks_greatest : (f : List ℕ → ℕ) → GreatestOver ms (block_list bs) f (greatest (λ b. greatest f (chains ms (length (block_list bs)) b)) (block_list bs))
   blocks_greatest f = over_blocks ms (block_list bs) f (λ b. greatest f (chains ms (length (block_list bs)) b)) (chains_greatest f)
@@ -207,7 +201,7 @@ module _ (p : Partition) where
   pub chain_single : (m : Model) → length (block_list bs) ≡ 1 → delay_chain m ms (block_list bs) ≡ 0
   chain_single m one =
       let order = p.order.now in
-      let n : length order ≡ 1 = omega (arith, one, counted bs order p.once listed numbered) in
+      let n : length order ≡ 1 = omega (arith, one, counted bs order p.once (listed p) (numbered p)) in
       let k = (blocks_greatest (steps_total (step_cost m ms))).attained (omega (arith, one)) in
       let lone : (c : List ℕ) → ChainFrom ms k.0 c → steps_total (step_cost m ms) c ≡ 0 =
       λ c. elim c as (λ c. ChainFrom ms k.0 c → steps_total (step_cost m ms) c ≡ 0) [

@@ -1,5 +1,5 @@
 -- The messages of a partition go between blocks of its tasks, and a machine answers for their sizes.
-use Rattle.std.proofs.Common.{◌≡◌, ℕ, ◌≤◌, List, length, sym, subst, arith}
+use Rattle.std.proofs.Common.{◌≡◌, ℕ, ◌≤◌, List, length, sym, ◌∙◌, subst, arith}
 use Rattle.graph.specs.declared.records.Link.{Link}
 use Rattle.graph.specs.Net.{no_link, Joined, Sized}
 use Rattle.chains.specs.declared.message.Message.{Message}
@@ -7,8 +7,10 @@ use Rattle.chains.specs.Chains.{Ordered}
 use Rattle.chains.proofs.Lists.{in_index}
 use Rattle.partition.specs.Blocks.{messages}
 use Rattle.partition.specs.Times.{Handled}
-use Rattle.partition.specs.Views.{Least}
+use Rattle.partition.specs.Views.{Least, Listed, Numbered}
+use Rattle.partition.specs.Held.{held}
 use Rattle.partition.specs.declared.partition.Partition.{Partition}
+use Rattle.partition.specs.declared.partition.crossings.Crossings.{Crossings}
 use Rattle.partition.proofs.Renamed.{Ends, of_messages, messages_few}
 
 pub ends : (n : ℕ) (links : List Link) → Joined n links → Ends n links
@@ -39,10 +41,14 @@ fair p = record {
   handled = handled _ p.links.now p.blocks.now p.small p.joined p.sized p.least;
 }
 
-pub fair_as : (p : Partition) (ms : List Message) → ms ≡ messages p.links.now p.blocks.now → Fair ms
-fair_as p ms e = subst (λ (xs : List Message). Fair xs) (sym e) (fair p)
+-- the order of a partition, by the number of its blocks
+pub listed : (p : Partition) → Listed (length p.blocks.now) p.blocks.now p.order.now
+listed p = subst (λ n. Listed n p.blocks.now p.order.now) (sym p.all) p.listed
 
--- the order of a partition is a processing order for its messages
+pub numbered : (p : Partition) → Numbered (length p.blocks.now) p.blocks.now p.order.now
+numbered p = subst (λ n. Numbered n p.blocks.now p.order.now) (sym p.all) p.numbered
+
+-- it is a processing order for its messages
 pub ordered : (p : Partition) → Ordered (messages p.links.now p.blocks.now) p.order.now
 ordered p = record {
   few = (fair p).few;
@@ -51,3 +57,10 @@ ordered p = record {
   once = p.once;
   forward = p.forward;
 }
+
+-- and so are the messages that stand with a partition
+pub fair_as : (x : Crossings) (ms : List Message) → ms ≡ held x → Fair ms
+fair_as x ms e = subst (λ (xs : List Message). Fair xs) (sym (e ∙ x.all)) (fair x.partition)
+
+pub held_ordered : (x : Crossings) → Ordered (held x) x.partition.order.now
+held_ordered x = subst (λ (ms : List Message). Ordered ms x.partition.order.now) (sym x.all) (ordered x.partition)

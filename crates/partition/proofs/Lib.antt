@@ -3,12 +3,10 @@ pub mod Rejoined
 pub mod Reached
 pub mod Renamed
 pub mod Joined
-pub mod Gathering
 pub mod Summing
 pub mod Handling
 pub mod Counting
 pub mod Levels
-pub mod Figuring
 pub mod Costing
 pub mod Convexity
 pub mod Delays

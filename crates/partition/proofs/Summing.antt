@@ -1,15 +1,15 @@
 -- Tables of sums, entry by entry.
-use Rattle.std.proofs.Common.{◌≡◌, ℕ, zero, suc, ◌+◌, ◌-◌, ◌*◌, ◌^◌, ◌<◌, ◌≤◌, Bool, true, false, cond, eqb, List, [], ◌∷◌, ◌++◌, length, get_or, take, set, sym, refl, ap, ◌∙◌, subst, inl, inr, ⊎_elim, arith}
-use Rattle.std.proofs.lemmas.List.{take_more, take_all, length-set, get_or-set_same, get_or-set_other}
+use Rattle.std.proofs.Common.{◌≡◌, ℕ, zero, suc, ◌+◌, ◌-◌, ◌*◌, ◌^◌, ◌<◌, ◌≤◌, Bool, true, false, cond, eqb, ◌⊎◌, List, [], ◌∷◌, ◌++◌, length, get_or, take, set, sym, refl, ap, ap₂, ◌∙◌, subst, inl, inr, ⊎_elim, arith}
+use Rattle.std.proofs.lemmas.List.{take_more, length-set, get_or-set_same, get_or-set_other}
 use Rattle.std.proofs.lemmas.Bool.{cases_eq, eq-eqb, ne_eqb, cond-true, cond-false}
 use Rattle.chains.specs.declared.message.Message.{Message}
 use Rattle.chains.specs.Lists.{In, total}
-use Rattle.chains.proofs.Lists.{in_getD}
+use Rattle.chains.proofs.Lists.{in_getD, in_index}
 use Rattle.machine.specs.Model.{Model, Lawful}
 use Rattle.graph.specs.declared.records.Task.{Task}
 use Rattle.graph.specs.Net.{no_task, Timed}
 use Rattle.partition.specs.Views.{Least}
-use Rattle.partition.specs.Times.{own_time, handling, overhead, block_time, Handled, Room}
+use Rattle.partition.specs.Times.{own_time, handling, overhead, block_time, AtEach, Handled, Room}
 
 -- an entry after x is added at place k
 pub added : (table : List ℕ) (k x b : ℕ) → k < length table → get_or (set table k (get_or table k 0 + x)) b 0 ≡ get_or table b 0 + cond (eqb k b) x 0
@@ -57,6 +57,9 @@ module _ (m : Model) (law : Lawful m) (ms : List Message) (few : length ms ≤ 1
   over_le : (b : ℕ) → b ≤ 256 → get_or table b 0 ≤ 100000 + 1024 * 200000000
   over_le b lb = omega (arith, o.holds b lb, handlings_le m b ms i law h, law.prompt, few)
 
+  pub over_room : Room table
+  over_room b lb = omega (arith, over_le b lb)
+
   pub over_fits : (b x : ℕ) → b ≤ 256 → x ≤ 100000000 → get_or table b 0 + x < 2 ^ 64
   over_fits b x lb lx = omega (arith, over_le b lb, lx)
 
@@ -89,59 +92,53 @@ module _ (m : Model) (law : Lawful m) (ms : List Message) (few : length ms ≤ 1
           omega (arith, second b, first b, o.holds b lb, t, s, a, w);
     }
 
-own_next : (tasks : List Task) (blocks : List ℕ) (b i : ℕ) → i < length tasks → length blocks ≡ length tasks
-    → own_time (take (suc i) tasks) (take (suc i) blocks) b ≡ own_time (take i tasks) (take i blocks) b + cond (eqb (get_or blocks i 0) b) (get_or tasks i no_task).time 0
-own_next [] blocks b i lt e = absurd (omega (arith, lt))
-own_next (t ∷ tasks) [] b i lt e = absurd (omega (arith, e))
-own_next (t ∷ tasks) (x ∷ blocks) b zero lt e = omega arith
-own_next (t ∷ tasks) (x ∷ blocks) b (suc i) lt e = omega (arith, own_next tasks blocks b i (omega (arith, lt)) (omega (arith, e)))
-
--- the own time with the next task
-pub own_more : (tasks : List Task) (blocks : List ℕ) (b i : ℕ) → i < length tasks → length blocks ≡ length tasks
-    → own_time (take (i + 1) tasks) (take (i + 1) blocks) b ≡ own_time (take i tasks) (take i blocks) b + cond (eqb (get_or blocks i 0) b) (get_or tasks i no_task).time 0
-own_more tasks blocks b i lt e =
-    let one : i + 1 ≡ suc i = omega arith in
-    ap (λ k. own_time (take k tasks) (take k blocks) b) one ∙ own_next tasks blocks b i lt e
-
--- the table with the first i tasks
-pub record Tasked (start : List ℕ) (tasks : List Task) (blocks table : List ℕ) (i : ℕ) : Type 0 where
+-- the table, to which the tasks that are left are still to be added
+pub record Adding (start : List ℕ) (tasks : List Task) (blocks table : List ℕ) (ts : List Task) (bs : List ℕ) : Type 0 where
   pub long : length table ≡ 257
-  pub holds : (b : ℕ) → b ≤ 256 → get_or table b 0 ≡ get_or start b 0 + own_time (take i tasks) (take i blocks) b
+  pub low : (x : ℕ) → In x bs → x ≤ 256
+  pub holds : (b : ℕ) → b ≤ 256 → get_or table b 0 + own_time ts bs b ≡ get_or start b 0 + own_time tasks blocks b
 
-own_le : (tasks : List Task) (blocks : List ℕ) (b i : ℕ) → length blocks ≡ length tasks → Timed tasks → own_time (take i tasks) (take i blocks) b ≤ length tasks * 1000000
-own_le [] [] b zero e t = omega arith
-own_le [] [] b (suc i) e t = omega arith
-own_le [] (x ∷ blocks) b i e t = absurd (omega (arith, e))
-own_le (t ∷ tasks) [] b i e timed = absurd (omega (arith, e))
-own_le (t ∷ tasks) (x ∷ blocks) b zero e timed = omega arith
-own_le (t ∷ tasks) (x ∷ blocks) b (suc i) e timed =
-    omega (
-      arith,
-      cond_le (eqb x b) t.time 1000000 (timed 0 (omega arith)).1,
-      own_le tasks blocks b i (omega (arith, e)) (λ k lt. timed (suc k) (omega (arith, lt))),
-    )
+-- the blocks of at most 256 tasks are numbered up to 256
+pub blocks_low : (n : ℕ) (blocks : List ℕ) → n ≤ 256 → length blocks ≡ n → Least n blocks → (x : ℕ) → In x blocks → x ≤ 256
+blocks_low n blocks few all least x i =
+    let k = in_index x blocks 0 i in
+    let one : (k.0 + 1) - 1 ≡ k.0 = omega arith in
+    let l = (least (k.0 + 1) (omega arith) (omega (arith, k.1, all))).1 in
+    omega (arith, ap (λ j. get_or blocks j 0) one, l, k.1, k.2, all, few)
+
+pub own_le : (tasks : List Task) (blocks : List ℕ) (b : ℕ) → Timed tasks → own_time tasks blocks b ≤ length tasks * 1000000
+own_le [] blocks b timed = omega arith
+own_le (t ∷ tasks) [] b timed = omega arith
+own_le (t ∷ tasks) (x ∷ blocks) b timed =
+    omega (arith, cond_le (eqb x b) t.time 1000000 (timed 0 (omega arith)).1, own_le tasks blocks b (λ k lt. timed (suc k) (omega (arith, lt))))
 
 -- one task more
-module _ (start : List ℕ) (room : Room start) (tasks : List Task) (few : length tasks ≤ 256) (blocks : List ℕ) (all : length blocks ≡ length tasks) (timed : Timed tasks)
-    (least : Least (length tasks) blocks) (table : List ℕ) (i : ℕ) (lt : i < length tasks) (g : Tasked start tasks blocks table i) where
-  pub task_known : get_or blocks i 0 ≤ 256
-  task_known =
-      let one : (i + 1) - 1 ≡ i = omega arith in
-      let l = (least (i + 1) (omega arith) (omega (arith, lt))).1 in
-      omega (arith, ap (λ k. get_or blocks k 0) one, l, lt, few)
+module _ (start : List ℕ) (room : Room start) (tasks : List Task) (few : length tasks ≤ 256) (blocks : List ℕ) (timed : Timed tasks) (table : List ℕ) (ts us : List Task) (xs bs : List ℕ)
+    (a : Adding start tasks blocks table ts xs) (t : Task) (x time : ℕ) (et : ts ≡ t ∷ us) (ex : xs ≡ x ∷ bs) (is : time ≡ t.time) where
+  pub task_known : x ≤ 256
+  task_known = a.low x (subst (λ (ys : List ℕ). In x ys) (sym ex) (inl refl))
 
-  pub task_fits : (x : ℕ) → x ≡ (get_or tasks i no_task).time → get_or table (get_or blocks i 0) 0 + x < 2 ^ 64
-  task_fits x e =
-      omega (arith, g.holds (get_or blocks i 0) task_known, room (get_or blocks i 0) task_known, own_le tasks blocks (get_or blocks i 0) i all timed, few, e, (timed i lt).1)
+  next : (b : ℕ) → own_time ts xs b ≡ cond (eqb x b) time 0 + own_time us bs b
+  next b = ap₂ (λ (vs : List Task) (ys : List ℕ). own_time vs ys b) et ex ∙ ap (λ k. cond (eqb x b) k 0 + own_time us bs b) (sym is)
 
-  pub task_more : (x : ℕ) → x ≡ (get_or tasks i no_task).time → (t : List ℕ) → t ≡ set table (get_or blocks i 0) (get_or table (get_or blocks i 0) 0 + x) → Tasked start tasks blocks t (i + 1)
-  task_more x e t is = record {
-    long = ap (λ (r : List ℕ). length r) is ∙ length-set table (get_or blocks i 0) (get_or table (get_or blocks i 0) 0 + x) ∙ g.long;
-    holds = λ b lb.
-        let a = ap (λ (r : List ℕ). get_or r b 0) is ∙ added table (get_or blocks i 0) x b (omega (arith, task_known, g.long)) in
-        let w = ap (λ r. cond (eqb (get_or blocks i 0) b) r 0) e in
-        omega (arith, a, w, g.holds b lb, own_more tasks blocks b i lt all);
+  pub task_fits : get_or table x 0 + time < 2 ^ 64
+  task_fits = omega (arith, a.holds x task_known, next x, cond-true (eqb x x) time 0 (eq-eqb x x refl), room x task_known, own_le tasks blocks x timed, few)
+
+  pub task_more : (now : List ℕ) → now ≡ set table x (get_or table x 0 + time) → Adding start tasks blocks now us bs
+  task_more now now_is = record {
+    long = ap (λ (r : List ℕ). length r) now_is ∙ length-set table x (get_or table x 0 + time) ∙ a.long;
+    low = λ y i. a.low y (subst (λ (ys : List ℕ). In y ys) (sym ex) (inr i));
+    holds = λ b lb. omega (arith, ap (λ (r : List ℕ). get_or r b 0) now_is, added table x time b (omega (arith, task_known, a.long)), next b, a.holds b lb);
   }
+
+own_done : (ts : List Task) (bs : List ℕ) (b : ℕ) → (length ts ≡ 0) ⊎ (length bs ≡ 0) → own_time ts bs b ≡ 0
+own_done [] bs b none = refl
+own_done (t ∷ ts) [] b none = refl
+own_done (t ∷ ts) (x ∷ bs) b none = ⊎_elim (λ e. absurd (omega (arith, e))) (λ e. absurd (omega (arith, e))) none
+
+pub task_last : (start : List ℕ) (tasks : List Task) (blocks table : List ℕ) (ts : List Task) (bs : List ℕ) → Adding start tasks blocks table ts bs → (length ts ≡ 0) ⊎ (length bs ≡ 0)
+    → AtEach (λ b. get_or start b 0 + own_time tasks blocks b) table
+task_last start tasks blocks table ts bs a none = record { long = a.long; holds = λ b lb. omega (arith, a.holds b lb, own_done ts bs b none) }
 
 totals_le : (m : Model) (b : ℕ) (ms : List Message) → Lawful m → Handled ms → total (handling m b) ms ≤ length ms * 200000000
 totals_le m b [] law h = omega arith
@@ -152,14 +149,10 @@ pub overhead_le : (m : Model) → Lawful m → (ms : List Message) (b : ℕ) →
 overhead_le m law ms b few h = omega (arith, totals_le m b ms law h, law.prompt, few)
 
 -- and so is a block time
-pub time_small : (m : Model) → Lawful m → (tasks : List Task) (blocks : List ℕ) (ms : List Message) (b : ℕ) → length ms ≤ 1024 → Handled ms → length tasks ≤ 256 → length blocks ≡ length tasks → Timed tasks
+pub time_small : (m : Model) → Lawful m → (tasks : List Task) (blocks : List ℕ) (ms : List Message) (b : ℕ) → length ms ≤ 1024 → Handled ms → length tasks ≤ 256 → Timed tasks
     → block_time m tasks blocks ms b < 2 ^ 40
-time_small m law tasks blocks ms b few h small all timed =
-    let n = length tasks in
-    let own : own_time tasks blocks b ≤ n * 1000000 =
-    subst (λ (ts : List Task). own_time ts blocks b ≤ n * 1000000) (take_all n tasks (omega arith))
-    (subst (λ (bs : List ℕ). own_time (take n tasks) bs b ≤ n * 1000000) (take_all n blocks (omega (arith, all))) (own_le tasks blocks b n all timed)) in
-    omega (arith, own, overhead_le m law ms b few h, small)
+time_small m law tasks blocks ms b few h small timed =
+    omega (arith, own_le tasks blocks b timed, overhead_le m law ms b few h, small)
 
 -- a block takes at least what a task of it takes
 pub own_ge : (tasks : List Task) (blocks : List ℕ) (i b : ℕ) → i < length tasks → i < length blocks → get_or blocks i 0 ≡ b → (get_or tasks i no_task).time ≤ own_time tasks blocks b

@@ -1,7 +1,7 @@
--- The messages that a table holds.
-use Rattle.std.specs.Prelude.{List, take}
+-- The messages that stand with a partition.
+use Rattle.std.specs.Prelude.{List}
 use Rattle.chains.specs.declared.message.Message.{Message}
 use Rattle.partition.specs.declared.partition.crossings.Crossings.{Crossings}
 
 abbrev pub held : Crossings → List Message
-held c = take c.count c.table
+held c = c.messages.items

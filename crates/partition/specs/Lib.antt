@@ -5,5 +5,6 @@ pub mod Joins
 pub mod Sorted
 pub mod Greatest
 pub mod Views
+pub mod Named
 pub mod Held
 pub mod Examples

@@ -1,14 +1,17 @@
-// The messages between the blocks of a partition.
-ghost use Rattle.std.specs.Prelude.{◌≤◌};
+// A partition with the messages between its blocks.
+ghost use Rattle.std.specs.Prelude.{◌≡◌};
+ghost use Rattle.partition.specs.Named.{messages_of};
 
+use crate::partition::Partition;
+use arrayvec::ArrayVec;
 use chains::message::Message;
 
-// The messages of at most 1,024 links, in the first places of a table.
-#[derive(Clone, Copy)]
-pub struct Crossings {
-    table: [Message; 1024],
-    count: usize,
-    ghost few: { count ≤ 1024 },
-}
-
 pub mod gather;
+
+// The messages are gathered once, for all figures of the partition.
+#[derive(Drop)]
+pub struct Crossings<'a> {
+    pub(crate) partition: Partition<'a>,
+    messages: ArrayVec<Message, 1024>,
+    ghost all: { messages.items ≡ messages_of partition },
+}

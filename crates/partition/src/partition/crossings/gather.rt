@@ -3,17 +3,14 @@ ghost use Rattle.std.specs.Prelude.{◌≡◌, ◌≤◌, length};
 ghost use Rattle.graph.specs.Net.{Joined};
 ghost use Rattle.partition.specs.Blocks.{block_of, messages, Convex};
 ghost use Rattle.partition.specs.Held.{held};
+ghost use Rattle.partition.specs.Named.{messages_of};
 
 use crate::partition::Partition;
 use crate::partition::crossings::Crossings;
+use arrayvec::ArrayVec;
 use chains::message::Message;
+use chains::network::Network;
 use graph::records::Link;
-
-const NONE: Message = Message {
-    from: 0,
-    to: 0,
-    size: 0,
-};
 
 // The block of a task.
 fn block_at(blocks: &[u32], task: u32) -> u32
@@ -25,49 +22,57 @@ fn block_at(blocks: &[u32], task: u32) -> u32
 }
 
 // One message for each link that crosses, in the order of the links.
-fn gather(links: &[Link], blocks: &[u32]) -> Crossings
+fn gather(links: &[Link], blocks: &[u32]) -> ArrayVec<Message, 1024>
     requires few { length links.now ≤ 1024 }
     requires joined { Joined (length blocks.now) links.now }
-    ensures { held result ≡ messages links.now blocks.now }
+    ensures { result.items ≡ messages links.now blocks.now }
 {
-    let mut table = [NONE; 1024];
-    let mut count = 0;
+    let mut messages = ArrayVec::new();
     for link in links {
         let from = block_at(blocks, link.sender);
         let to = block_at(blocks, link.receiver);
         if from != to {
-            table[count] = Message {
+            messages.push(Message {
                 from,
                 to,
                 size: link.size,
-            };
-            count += 1;
+            });
         }
     }
-    Crossings { table, count }
+    messages
 }
 
-// No path over the messages returns to a block that it left.
-fn never_return(partition: &Partition<'_>)
-    ensures { Convex (messages partition.now.links.now partition.now.blocks.now) }
-{}
-
-impl Partition<'_> {
+impl<'a> Partition<'a> {
     // The messages between the blocks: one for each link that crosses. They never return to a block that they left.
-    pub fn crossings(&self) -> Crossings
-        ensures result_value { held result ≡ messages self.now.links.now self.now.blocks.now }
-        ensures convex { Convex (messages self.now.links.now self.now.blocks.now) }
+    pub fn crossings(&self) -> Crossings<'a>
+        ensures result_value { held result ≡ messages_of self.now }
+        ensures convex { Convex (messages_of self.now) }
+        ensures same { result.partition ≡ self.now }
     {
-        never_return(self);
-        gather(self.links, self.blocks)
+        let messages = gather(self.links, self.blocks);
+        Crossings {
+            partition: *self,
+            messages,
+        }
     }
 }
 
-impl Crossings {
+impl Crossings<'_> {
     // The messages, in the order of their links.
     pub fn as_slice(&self) -> &[Message]
         ensures { result.now ≡ held self.now }
     {
-        &self.table[0..self.count]
+        self.messages.as_slice()
+    }
+
+    // The messages with the processing order.
+    pub(crate) fn network<'x>(&'x self) -> Network<'x>
+        ensures messages { result.messages.now ≡ held self.now }
+        ensures order { result.order.now ≡ self.now.partition.order.now }
+    {
+        Network {
+            messages: self.as_slice(),
+            order: self.partition.order,
+        }
     }
 }

@@ -1,29 +1,29 @@
-use Rattle.std.proofs.Common.{ℕ, ◌+◌, ◌≤◌, List, get_or, sym, ◌∙◌, subst, ap₂}
-use Rattle.std.proofs.lemmas.List.{take_all}
-use Rattle.graph.specs.declared.records.Task.{Task}
-use Rattle.partition.specs.Times.{own_time}
-use Rattle.partition.proofs.Summing.{task_known, task_fits, task_more}
+use Rattle.std.proofs.Common.{◌≡◌, ℕ, List, subst, inl, inr, ⊎_elim, rules}
+use Rattle.chains.specs.Lists.{In}
+use Rattle.partition.proofs.Summing.{blocks_low, task_known, task_fits, task_more, task_last}
 use Rattle.partition.proofs.partition.times.add_tasks.Goals as goal
+
+pub loop-task-init : goal.loop-task-init
+loop-task-init c =
+    let p = c.requires in
+    let low = blocks_low _ c.args.blocks.now p.few p.all p.least in
+    let all : c.into_iter-task-iterator.result.b.rest.now ≡ c.args.blocks.now = search rules in
+    record { long = search rules; low = λ x i. low x (subst (λ (bs : List ℕ). In x bs) all i); holds = search rules }
 
 pub add_at-requires : goal.add_at-requires
 add_at-requires c =
     let p = c.requires in
+    let s = c.in-Some.ensures.steps in
     record {
-      known = task_known _ p.room _ p.few _ p.all p.timed p.least _ c.loop-i.i c.loop-i-test.true c.loop-i.invariant;
-      fits = task_fits _ p.room _ p.few _ p.all p.timed p.least _ c.loop-i.i c.loop-i-test.true c.loop-i.invariant _ c.from.ensures;
+      known = task_known _ p.room _ p.few _ p.timed _ _ _ _ _ c.loop-task.invariant _ _ _ s.0 s.1 c.from.ensures;
+      fits = task_fits _ p.room _ p.few _ p.timed _ _ _ _ _ c.loop-task.invariant _ _ _ s.0 s.1 c.from.ensures;
     }
 
-pub loop-i-preserved : goal.loop-i-preserved
-loop-i-preserved c =
+pub loop-task-preserved : goal.loop-task-preserved
+loop-task-preserved c =
     let p = c.requires in
-    task_more _ p.room _ p.few _ p.all p.timed p.least _ c.loop-i.i c.loop-i-test.true c.loop-i.invariant _ c.from.ensures _ c.add_at.ensures
+    let s = c.in-Some.ensures.steps in
+    task_more _ p.room _ p.few _ p.timed _ _ _ _ _ c.loop-task.invariant _ _ _ s.0 s.1 c.from.ensures _ c.add_at.ensures
 
 pub returns : goal.returns
-returns c =
-    let n = c.loop-i-test.false in
-    let start = c.args.table.now in
-    record {
-      long = c.loop-i.invariant.long;
-      holds = λ b lb. c.loop-i.invariant.holds b lb
-          ∙ ap₂ (λ (ts : List Task) (bs : List ℕ). get_or start b 0 + own_time ts bs b) (take_all _ _ n) (take_all _ _ (subst (λ k. k ≤ c.loop-i.i) (sym c.requires.all) n));
-    }
+returns c = task_last _ _ _ _ _ _ c.loop-task.invariant (⊎_elim (λ s. inl s.1.0) (λ s. inr s.1.0) c.in-None.ensures.steps)

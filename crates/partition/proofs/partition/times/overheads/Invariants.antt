@@ -1,5 +1,0 @@
-use Rattle.partition.proofs.Summing.{Over}
-use Rattle.partition.proofs.partition.times.overheads.Given as goal
-
-abbrev pub invariant-loop-message : goal.invariant-loop-message
-invariant-loop-message g l = Over (g.M.Machine.meaning l.machine) l.messages l.table l.message-index

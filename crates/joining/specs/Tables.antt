@@ -1,5 +1,5 @@
 -- A table with a row for each block number: what it says of a pair.
-use Rattle.std.specs.Prelude.{◌≡◌, ℕ, ◌≤◌, Bool, false, List, [], slice_index_or}
+use Rattle.std.specs.Prelude.{◌≡◌, ℕ, Bool, false, List, [], slice_index_or}
 use Rattle.chains.specs.declared.message.Message.{Message}
 use Rattle.chains.specs.Lists.{In}
 use Rattle.partition.specs.Joins.{leads}
@@ -11,7 +11,3 @@ reach_in rows a b = slice_index_or (slice_index_or rows a []) b false
 -- the row of each block of the order has just what the block leads to, over at most n steps
 abbrev pub TellsReach : List Message → ℕ → List ℕ → List (List Bool) → Type 0
 TellsReach ms n order rows = (a b : ℕ) → In a order → reach_in rows a b ≡ leads ms n a b
-
--- every number of a list is one that a table has a row for
-abbrev pub Small : List ℕ → Type 0
-Small xs = (x : ℕ) → In x xs → x ≤ 256

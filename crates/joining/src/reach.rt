@@ -5,7 +5,6 @@ ghost use Rattle.joining.specs.Tables.{TellsReach};
 
 use partition::partition::Partition;
 
-pub mod between;
 pub mod join;
 pub mod rows;
 

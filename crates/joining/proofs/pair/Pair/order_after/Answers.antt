@@ -1,7 +1,6 @@
 use Rattle.std.proofs.Common.{◌≡◌, ℕ, suc, ◌+◌, ◌<◌, ◌≤◌, List, [], ◌∷◌, ◌++◌, length, filter, ap, ◌∙◌, append_assoc, arith, rules, of_calls}
 use Rattle.std.proofs.lemmas.List.{length-append}
-use base.Fml.{Lft}
-use contract.BorrowLft.{◌⊑◌, ⊑_meet, ⊑_static}
+use contract.BorrowLft.{⊑_meet, ⊑_static}
 use Rattle.arrayvec.specs.ArrayVec.{array_vec_len}
 use Rattle.joining.specs.Pairs.{before, behind, reach_of, order_of}
 use Rattle.joining.specs.declared.pair.Pair.{Pair}
@@ -13,21 +12,11 @@ use Rattle.joining.proofs.pair.Pair.order_after.Goals as goal
 fit : (p : Pair) → length (filter (before p) (order_of p)) + suc (length (filter (behind p) (order_of p))) ≤ 256
 fit p = let w = p.reach.now in sides_fit (reach_of p) p.one p.other _ (order_of p) (order_room w.partition w.rows w.tells p.one p.other p.one_known p.other_known)
 
--- a borrow that lasts no longer than a closure's capture of the pair lasts no longer than the closure
-lives : (κ one two three : Lft) → κ ⊑ one → κ ⊑ two → κ ⊑ three
-    → let reach = ((three ++ []) ++ ((three ++ []) ++ ((three ++ []) ++ ((three ++ []) ++ [])))) ++ [] in let pair = one ++ ((two ++ reach) ++ []) ++ [] in κ ⊑ pair ++ pair
-lives κ one two three a b c =
-    let none = ⊑_static κ in
-    let part = ⊑_meet κ _ _ c none in
-    let reach = ⊑_meet κ _ _ (⊑_meet κ _ _ part (⊑_meet κ _ _ part (⊑_meet κ _ _ part (⊑_meet κ _ _ part none)))) none in
-    let pair = ⊑_meet κ _ _ (⊑_meet κ _ _ a (⊑_meet κ _ _ (⊑_meet κ _ _ b reach) none)) none in
-    ⊑_meet κ _ _ pair pair
-
 pub append-requires : goal.append-requires
 append-requires c κs within =
     let p = c.args.self.now in
     let room : array_vec_len c.new-after.result + length (filter (before p) (order_of p)) ≤ 256 = omega (arith, fit p, ap length c.new-after.ensures) in
-    (lives κs.1.1.0 κs.1.1.1.0 κs.1.1.1.1.0 κs.1.1.1.1.1.0 within.0 within.1.0 within.1.1.0, (search (rules, of_calls), search (rules, room)))
+    (search (⊑_meet, ⊑_static, within.0, within.1.0, within.1.1.0) depth 20 fits 100000, (search (rules, of_calls), search (rules, room)))
 
 pub push-requires : goal.push-requires
 push-requires c =
@@ -40,7 +29,7 @@ append-requires-2 c κs within =
     let p = c.args.self.now in
     let room : array_vec_len c.push.new.self + length (filter (behind p) (order_of p)) ≤ 256
     = omega (arith, fit p, c.push.ensures.len, ap length c.append.ensures, ap length c.new-after.ensures, length-append c.new-after.result.items (filter (before p) (order_of p))) in
-    (lives κs.1.1.0 κs.1.1.1.0 κs.1.1.1.1.0 κs.1.1.1.1.1.0 within.0 within.1.0 within.1.1.0, (search (rules, of_calls), search (rules, room)))
+    (search (⊑_meet, ⊑_static, within.0, within.1.0, within.1.1.0) depth 20 fits 100000, (search (rules, of_calls), search (rules, room)))
 
 pub returns : goal.returns
 returns c =

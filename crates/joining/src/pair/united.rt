@@ -64,7 +64,11 @@ impl Pair<'_, '_> {
         let reach = self.reach;
         let mut after = ArrayVec::new();
         for block in reach.partition.blocks {
-            after.push(if self.takes_in(*block) { number } else { *block });
+            after.push(if self.takes_in(*block) {
+                number
+            } else {
+                *block
+            });
         }
         after
     }

@@ -13,10 +13,7 @@ use partition::partition::Partition;
 fn is_block(blocks: &[u32], number: u32) -> bool
     ensures { result ≡ has number (block_list blocks.now) }
 {
-    number > 0
-        && blocks
-            .get(number as usize - 1)
-            .is_some_and(|block| *block == number)
+    number > 0 && blocks.get(number as usize - 1) == Some(&number)
 }
 
 impl Reach<'_> {

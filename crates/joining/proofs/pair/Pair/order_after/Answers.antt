@@ -1,4 +1,4 @@
-use Rattle.std.proofs.Common.{◌≡◌, ℕ, suc, ◌+◌, ◌<◌, ◌≤◌, List, [], ◌∷◌, ◌++◌, length, filter, ap, ◌∙◌, append_assoc, arith, rules, of_calls}
+use Rattle.std.proofs.Common.{ℕ, suc, ◌+◌, ◌<◌, ◌≤◌, List, [], ◌∷◌, ◌++◌, length, filter, ap, ◌∙◌, append_assoc, arith, rules, of_calls}
 use Rattle.std.proofs.lemmas.List.{length-append}
 use contract.BorrowLft.{⊑_meet, ⊑_static}
 use Rattle.arrayvec.specs.ArrayVec.{array_vec_len}

@@ -1,7 +1,6 @@
 use Rattle.std.proofs.Common.{List, sym, ◌∙◌, subst}
 use Rattle.chains.specs.declared.message.Message.{Message}
 use Rattle.chains.specs.Chains.{Ordered}
-use Rattle.partition.specs.Blocks.{messages}
 use Rattle.partition.proofs.Handling.{ordered}
 use Rattle.joining.proofs.Leading.{order_counted, rows_tell, tells_as}
 use Rattle.joining.proofs.reach.rows.rows_of.Goals as goal

@@ -43,6 +43,20 @@ impl Pair<'_, '_> {
         self.reach.leads(block, self.one) || self.reach.leads(block, self.other)
     }
 
+    // Whether a block stands before the union in the processing order after joining.
+    fn is_before(&self, block: u32) -> bool
+        ensures { result ≡ before self.now block }
+    {
+        !self.takes_in(block) && self.is_led_to_from(block)
+    }
+
+    // Whether it stands behind the union.
+    fn is_behind(&self, block: u32) -> bool
+        ensures { result ≡ behind self.now block }
+    {
+        !self.takes_in(block) && !self.is_led_to_from(block)
+    }
+
     // The least number of a block of the union.
     fn number(&self) -> u32
         ensures { result ≡ least_among (taken_in self.now) self.now.one (blocks_of self.now) }
@@ -80,13 +94,9 @@ impl Pair<'_, '_> {
         let reach = self.reach;
         let order = reach.partition.order;
         let mut after = ArrayVec::new();
-        append(&mut after, order, |block| {
-            !self.takes_in(block) && self.is_led_to_from(block)
-        });
+        append(&mut after, order, |block| self.is_before(block));
         after.push(number);
-        append(&mut after, order, |block| {
-            !self.takes_in(block) && !self.is_led_to_from(block)
-        });
+        append(&mut after, order, |block| self.is_behind(block));
         after
     }
 

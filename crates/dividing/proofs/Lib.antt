@@ -1,7 +1,6 @@
 pub mod Firsts
 pub mod Steps
 pub mod Meeting
-pub mod Blocks
 pub mod Picking
 pub mod Viewing
 pub mod Stepping

@@ -1,5 +1,5 @@
 -- The least by a key, of what a chain of iterators gives; and that it is the first best of the blocks in their order.
-use Rattle.std.proofs.Common.{◌≡◌, ℕ, zero, suc, ◌<◌, ◌≤◌, Bool, true, false, cond, not, ◌&&◌, eqb, ltb, List, [], ◌∷◌, length, get_or, Some, None, Option, Ordering, Less, Equal, Greater, map, filter, MatchOption, sym, refl, ap, ◌∙◌, subst, inl, inr, ◌⊎◌, ⊎_elim, arith}
+use Rattle.std.proofs.Common.{◌≡◌, ℕ, zero, suc, ◌≤◌, Bool, true, false, cond, not, eqb, ltb, List, [], ◌∷◌, length, get_or, Some, None, Option, Ordering, Less, Equal, Greater, map, filter, MatchOption, sym, refl, ap, ◌∙◌, subst, inl, inr, ◌⊎◌, ⊎_elim, arith}
 use Rattle.std.specs.Prelude.{IfSome, slice_get}
 use Rattle.std.specs.List.{filter_map, cons_option}
 use Rattle.std.specs.Option.{IsSomeAnd, unwrap_or}
@@ -7,16 +7,15 @@ use Rattle.std.specs.Ordering.{is_lt, nat_cmp, ordering_then}
 use Rattle.std.specs.Fn.{CalledAt}
 use Rattle.std.specs.Iterator.Runs.{WholeRun, Run, AnyItem, NoKeyBeyond}
 use Rattle.std.proofs.iter.runs.Made.{took, at-is}
-use Rattle.std.proofs.lemmas.Bool.{both_ways, cases_Bool, cond-true, cond-false, ltb-true, ltb-false, lt-ltb, le-ltb, eq-eqb, and_from}
+use Rattle.std.proofs.lemmas.Bool.{both_ways, cond-true, ltb-false, le-ltb, eq-eqb, and_from}
 use Rattle.std.proofs.lemmas.Iterator.{YieldsList, items_from_drains}
-use Rattle.std.proofs.lemmas.Fn.{called_at}
 use denote.Param.Members.{Mut}
 use denote.Ref.{Bor}
 use Rattle.std.specs.declared.cmp.Reverse.{Reverse}
 use Rattle.chains.specs.Chains.{has}
 use Rattle.chains.specs.Lists.{In}
-use Rattle.chains.proofs.Lists.{in_has, has_in}
-use Rattle.partition.specs.Blocks.{block_list, blocks_among}
+use Rattle.chains.proofs.Lists.{in_has}
+use Rattle.partition.specs.Blocks.{block_list}
 use Rattle.partition.proofs.Counting.{of_among, in_among}
 use Rattle.partition.proofs.Places.{in_kept, of_kept}
 use Rattle.partition.specs.Times.{AtEach}
@@ -25,7 +24,7 @@ use Rattle.joining.proofs.Outcome.{in_order}
 use Rattle.joining.specs.Outcomes.{both_blocks}
 use Rattle.dividing.specs.Choosing.{cheapest}
 use Rattle.dividing.specs.Dividing.{others}
-use Rattle.dividing.specs.Firsts.{first_least, first_least_of, first_greatest}
+use Rattle.dividing.specs.Firsts.{first_least_of, first_greatest}
 use Rattle.dividing.specs.declared.choice.Choice.{Choice}
 use Rattle.dividing.proofs.Firsts.{Chosen, Rising, first_chosen, chosen_in, chosen_first, greatest_ranks, least_ranks}
 use Rattle.dividing.proofs.Meeting.{rising_among, rising_kept, least_of_chosen}
@@ -91,15 +90,6 @@ lesser a b x y = go (ltb a b) (eqb a b) (ltb x y) (eqb x y) refl refl refl
 chosen_is : (better : ℕ → ℕ → Bool) (xs : List ℕ) (r c : ℕ) → Chosen better xs r → In r xs → Rising xs → In c xs → ((y : ℕ) → In y xs → (better y c ≡ false) × (better c y ≡ false → c ≤ y)) → r ≡ c
 chosen_is better xs r c chosen ir rising ic best =
     omega (arith, chosen_first better xs r c chosen rising ic (best r ir).0, (best r ir).1 (chosen.none c ic))
-
--- whether one number is less, by what `cmp` answers
-pub less_is : (a b : ℕ) → is_lt (nat_cmp a b) ≡ ltb a b
-less_is a b = go (ltb a b) (eqb a b)
-  where
-    go : (s t : Bool) → is_lt (cond s Less (cond t Equal Greater)) ≡ s
-    go true t = refl
-    go false true = refl
-    go false false = refl
 
 still_in : {B : Type 0} (o : Option B) (ys : List B) (y : B) → In y ys → In y (cons_option o ys)
 still_in None ys y i = i

@@ -2,6 +2,7 @@
 use Rattle.std.specs.Prelude.{ℕ, cond, List, [], ◌∷◌, Some, None, Option, nat_lt}
 use Rattle.graph.specs.Net.{Net}
 use Rattle.machine.specs.Model.{Model}
+use Rattle.joining.specs.Outcomes.{both_blocks}
 use Rattle.dividing.specs.Dividing.{cost_of, joined_to}
 use Rattle.dividing.specs.Firsts.{first_least}
 use Rattle.dividing.specs.declared.choice.Choice.{Choice}
@@ -10,6 +11,10 @@ use Rattle.dividing.specs.declared.divided.Divided.{Divided}
 -- what these blocks cost after joining b to h
 abbrev pub price_of : Model → Net → List ℕ → ℕ → ℕ → ℕ
 price_of m net blocks h b = cost_of m net (joined_to net blocks h b)
+
+-- block b as a partner of h, with its price; nothing where one of the two is no block
+abbrev pub offer : Model → Net → List ℕ → ℕ → ℕ → Option Choice
+offer m net blocks h b = cond (both_blocks blocks h b) (Some (record { partner = b; cost = price_of m net blocks h b })) None
 
 -- of a list the first block at which the price is least, with that price; none where there is no block
 abbrev pub cheapest : (ℕ → ℕ) → List ℕ → Option Choice

@@ -16,24 +16,16 @@ use crate::tables::{in_blocks, in_tables};
 use joining::joined::Joined;
 use machine::Machine;
 use partition::partition::Partition;
-use std::cmp;
 
 // The cheaper of what was kept and one more, the former where they cost the same.
 fn cheaper(kept: Option<Divided>, more: Divided) -> Divided
     ensures { result ≡ cheaper kept more }
 {
-    match kept {
-        Some(kept) => cmp::min_by_key(kept, more, |divided| divided.cost),
-        None => more,
-    }
+    kept.filter(|kept| kept.cost <= more.cost).unwrap_or(more)
 }
 
 // What is met after other blocks of a partition's tasks; nothing where no more than one block is left.
-fn after<M: Machine>(
-    partition: &Partition<'_>,
-    present: &Joined,
-    machine: &M,
-) -> Option<Divided>
+fn after<M: Machine>(partition: &Partition<'_>, present: &Joined, machine: &M) -> Option<Divided>
     requires sorted { Sorted (length partition.now.tasks.now) partition.now.links.now (blocks_in present.now) (order_in present.now) }
     ensures { MatchOption result (length (block_list (blocks_in present.now)) ≤ 1) (NextMet (M.meaning machine.now) (net_of partition.now) (blocks_in present.now)) }
 {

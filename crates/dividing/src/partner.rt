@@ -1,9 +1,8 @@
 // The block that another is best joined to.
-ghost use Rattle.std.specs.Prelude.{◌≡◌, true, None, Some, if◌then◌else◌};
+ghost use Rattle.std.specs.Prelude.{◌≡◌, true};
 ghost use Rattle.chains.specs.Chains.{has};
 ghost use Rattle.partition.specs.Blocks.{block_list};
-ghost use Rattle.joining.specs.Outcomes.{both_blocks};
-ghost use Rattle.dividing.specs.Choosing.{cheapest, price_of};
+ghost use Rattle.dividing.specs.Choosing.{cheapest, offer, price_of};
 ghost use Rattle.dividing.specs.Dividing.{others};
 ghost use Rattle.dividing.specs.Views.{net_of, blocks_of};
 
@@ -14,7 +13,7 @@ use machine::Machine;
 
 // A block with what the partition after joining another to it costs; nothing where one of the two is no block.
 fn choice<M: Machine>(reach: &Reach<'_>, machine: &M, heavy: u32, block: u32) -> Option<Choice>
-    ensures { result ≡ (if both_blocks (blocks_of reach.now.partition) heavy block then Some (record { partner = block; cost = price_of (M.meaning machine.now) (net_of reach.now.partition) (blocks_of reach.now.partition) heavy block }) else None) }
+    ensures { result ≡ offer (M.meaning machine.now) (net_of reach.now.partition) (blocks_of reach.now.partition) heavy block }
 {
     let joined = reach.join(heavy, block)?;
     Some(Choice {

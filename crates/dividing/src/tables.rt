@@ -50,11 +50,7 @@ pub(crate) fn in_blocks<'a>(partition: &Partition<'a>, joined: &'a Joined) -> Pa
 }
 
 // What they cost in other blocks.
-pub(crate) fn cost_in<M: Machine>(
-    partition: &Partition<'_>,
-    joined: &Joined,
-    machine: &M,
-) -> u64
+pub(crate) fn cost_in<M: Machine>(partition: &Partition<'_>, joined: &Joined, machine: &M) -> u64
     requires sorted { Sorted (length partition.now.tasks.now) partition.now.links.now (blocks_in joined.now) (order_in joined.now) }
     ensures { result ≡ cost_of (M.meaning machine.now) (net_of partition.now) (blocks_in joined.now) }
 {

@@ -1,10 +1,11 @@
 -- What joining two blocks leaves of a partition with its processing order.
-use Rattle.std.specs.Prelude.{◌≡◌, ℕ, Bool, true, ◌&&◌, List, length}
+use Rattle.std.specs.Prelude.{◌≡◌, ℕ, Bool, true, false, ◌&&◌, List, length, Option, MatchOption}
 use Rattle.graph.specs.declared.records.Link.{Link}
 use Rattle.chains.specs.Chains.{has}
 use Rattle.partition.specs.Blocks.{block_list, messages}
 use Rattle.partition.specs.Joins.{leads, between, least_among, joining, order_after}
 use Rattle.partition.specs.Sorted.{Sorted}
+use Rattle.partition.specs.declared.partition.Partition.{Partition}
 use Rattle.joining.specs.Unions.{Union}
 use Rattle.joining.specs.declared.joined.Joined.{Joined}
 
@@ -37,3 +38,11 @@ pub record JoinedFrom (n : ℕ) (links : List Link) (blocks order : List ℕ) (a
   pub sorted : Sorted n links (blocks_in j) (order_in j)
   pub union : Union n links blocks a b (blocks_in j)
   pub counted : length (order_in j) ≡ length (block_list (blocks_in j))
+
+-- the same of a partition with its processing order
+abbrev pub JoinedIn : Partition → ℕ → ℕ → Joined → Type 0
+JoinedIn p a b j = JoinedFrom (length p.tasks.now) p.links.now p.blocks.now p.order.now a b j
+
+-- what joining a and b answers: nothing where one of them is no block
+abbrev pub AnswersJoin : Partition → ℕ → ℕ → Option Joined → Type 0
+AnswersJoin p a b r = MatchOption r (both_blocks p.blocks.now a b ≡ false) (JoinedIn p a b)

@@ -2,7 +2,7 @@
 ghost use Rattle.std.specs.Prelude.{◌≡◌, ℕ, ◌+◌, ◌≤◌, Bool, ◌||◌, ◌++◌, length, filter};
 ghost use Rattle.arrayvec.specs.ArrayVec.{array_vec_len};
 ghost use Rattle.partition.specs.Joins.{least_among, united, order_after};
-ghost use Rattle.joining.specs.Outcomes.{JoinedFrom};
+ghost use Rattle.joining.specs.Outcomes.{JoinedIn};
 ghost use Rattle.joining.specs.Pairs.{taken_in, before, behind, reach_of, blocks_of, order_of};
 
 use crate::joined::Joined;
@@ -102,7 +102,7 @@ impl Pair<'_, '_> {
 
     // The partition after joining the two.
     pub(crate) fn joined(&self) -> Joined
-        ensures { JoinedFrom (length self.now.reach.now.partition.tasks.now) self.now.reach.now.partition.links.now (blocks_of self.now) (order_of self.now) self.now.one self.now.other result }
+        ensures { JoinedIn self.now.reach.now.partition self.now.one self.now.other result }
     {
         let number = self.number();
         let blocks = self.blocks_after(number);

@@ -1,8 +1,8 @@
 // Joining two blocks of a partition.
-ghost use Rattle.std.specs.Prelude.{◌≡◌, false, length, MatchOption};
+ghost use Rattle.std.specs.Prelude.{◌≡◌};
 ghost use Rattle.chains.specs.Chains.{has};
 ghost use Rattle.partition.specs.Blocks.{block_list};
-ghost use Rattle.joining.specs.Outcomes.{both_blocks, JoinedFrom};
+ghost use Rattle.joining.specs.Outcomes.{AnswersJoin};
 
 use crate::joined::Joined;
 use crate::pair::Pair;
@@ -20,7 +20,7 @@ impl Reach<'_> {
     // The partition after joining two blocks with all blocks on paths between them; nothing where one of the numbers is
     // no block's. Two passes over the tasks and two over the blocks.
     pub fn join(&self, one: u32, other: u32) -> Option<Joined>
-        ensures { MatchOption result (both_blocks self.now.partition.blocks.now one other ≡ false) (JoinedFrom (length self.now.partition.tasks.now) self.now.partition.links.now self.now.partition.blocks.now self.now.partition.order.now one other) }
+        ensures { AnswersJoin self.now.partition one other result }
     {
         let blocks = self.partition.blocks;
         if is_block(blocks, one) && is_block(blocks, other) {
@@ -39,7 +39,7 @@ impl Reach<'_> {
 // The partition after joining two blocks with all blocks on paths between them; nothing where one of the numbers is no
 // block's. Who joins many pairs makes the table once.
 pub fn join(partition: &Partition<'_>, one: u32, other: u32) -> Option<Joined>
-    ensures { MatchOption result (both_blocks partition.now.blocks.now one other ≡ false) (JoinedFrom (length partition.now.tasks.now) partition.now.links.now partition.now.blocks.now partition.now.order.now one other) }
+    ensures { AnswersJoin partition.now one other result }
 {
     Reach::of(partition).join(one, other)
 }

@@ -1,7 +1,6 @@
 // Filling the table of a partition.
-ghost use Rattle.std.specs.Prelude.{◌≡◌, length};
-ghost use Rattle.partition.specs.Blocks.{block_list, messages};
-ghost use Rattle.joining.specs.Tables.{TellsReach, reach_in};
+ghost use Rattle.std.specs.Prelude.{◌≡◌};
+ghost use Rattle.joining.specs.Tables.{Tells, reach_in};
 
 use crate::reach::Reach;
 use chains::network::Network;
@@ -10,7 +9,7 @@ use partition::partition::Partition;
 
 // For each block of a partition and each number, whether the block leads to it.
 fn rows_of(partition: &Partition<'_>) -> [[bool; 257]; 257]
-    ensures { TellsReach (messages partition.now.links.now partition.now.blocks.now) (length (block_list partition.now.blocks.now)) partition.now.order.now result }
+    ensures { Tells partition.now result }
 {
     let crossings = partition.crossings();
     let network = Network {

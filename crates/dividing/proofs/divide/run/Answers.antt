@@ -1,4 +1,4 @@
-use Rattle.std.proofs.Common.{cond, ltb, sym, ap, ◌∙◌, subst}
+use Rattle.std.proofs.Common.{cond, ltb, sym, ap, subst}
 use Rattle.dividing.specs.Choosing.{cheaper}
 use Rattle.dividing.specs.Kept.{Kept}
 use Rattle.dividing.specs.Views.{net_of, blocks_of}

@@ -1,8 +1,6 @@
-use Rattle.std.proofs.Common.{get_or, ap, ◌∙◌, rules, tests}
+use Rattle.std.proofs.Common.{get_or, ◌∙◌, rules, tests}
 use Rattle.std.proofs.lemmas.Iterator.{YieldsList-from_slice}
 use Rattle.std.proofs.lemmas.Iterator.Consumers.{YieldsList-from_copied}
-use Rattle.std.specs.Ordering.{nat_cmp, ordering_then}
-use Rattle.std.specs.Option.{unwrap_or}
 use Rattle.dividing.proofs.Picking.{least_by_key, heaviest_picked}
 use Rattle.dividing.proofs.heaviest.heaviest_in.Goals as goal
 

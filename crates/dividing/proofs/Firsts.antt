@@ -85,11 +85,6 @@ module _ {A : Type 0} (better : A → A → Bool) (ranks : Ranks better) where
       subst (λ k. Chosen better (x ∷ y ∷ ys) (first_best better k ys)) (sym e) (dropped x y ys (first_best better x ys) t c.before c.after c.split c.earlier c.none))
       (cases_Bool (better y x))
 
-  -- what is chosen of two lists put together
-  pub first_append : (x : A) (xs ys : List A) → first_best better x (xs ++ ys) ≡ first_best better (first_best better x xs) ys
-  first_append x [] ys = refl
-  first_append x (y ∷ xs) ys = first_append (cond (better y x) y x) xs ys
-
   -- what is chosen stands in the list
   pub chosen_in : (xs : List A) (r : A) → Chosen better xs r → In r xs
   chosen_in xs r c = subst (λ l. In r l) (sym c.split) (in_right r c.before (r ∷ c.after) (inl refl))
@@ -130,14 +125,3 @@ chosen_first better xs r y c rising i f =
     (λ j. absurd (let t : better r y ≡ true = c.earlier y j in let z : ◌≡◌ {A = Bool} true false = sym t ∙ f in let w : ◌≡◌ {A = ℕ} 0 1 = cc in omega arith))
     (λ j. ⊎_elim (λ (e : y ≡ r). omega (arith, e)) (λ k. rising_after c.before c.after r y (subst (λ l. Rising l) c.split rising) k) j)
     (in_append y c.before (r ∷ c.after) (subst (λ l. In y l) c.split i))
-
--- two tests that agree on the elements choose the same
-pub first_same : {A : Type 0} (s t : A → A → Bool) (P : A → Type 0) → ((a b : A) → P a → P b → s a b ≡ t a b) → (x : A) (xs : List A) → P x → ((y : A) → In y xs → P y) → first_best s x xs ≡ first_best t x xs
-first_same s t P agree x [] px all = refl
-first_same s t P agree x (y ∷ ys) px all =
-    let py : P y = all y (inl refl) in
-    let e : cond (s y x) y x ≡ cond (t y x) y x = ap (λ b. cond b y x) (agree y x py px) in
-    ap (λ k. first_best s k ys) e
-    ∙ first_same s t P agree (cond (t y x) y x) ys
-    (⊎_elim (λ b. subst P (sym (cond-true (t y x) y x b)) py) (λ b. subst P (sym (cond-false (t y x) y x b)) px) (cases_Bool (t y x)))
-    (λ z i. all z (inr i))

@@ -1,8 +1,7 @@
 pub mod Firsts
 pub mod Steps
 pub mod Meeting
-pub mod Blocks
-pub mod Choosing
+pub mod Picking
 pub mod Viewing
 pub mod Stepping
 pub mod Running

@@ -23,14 +23,14 @@ of_one : (b : Bool) (x y : ℕ) → In y (cond b (x ∷ []) []) → y ≡ x
 of_one true x y i = ⊎_elim (λ (e : y ≡ x). e) (λ j. absurd j) i
 of_one false x y i = absurd i
 
-rising_among : (blocks : List ℕ) (n : ℕ) → Rising (blocks_among blocks n)
+pub rising_among : (blocks : List ℕ) (n : ℕ) → Rising (blocks_among blocks n)
 rising_among blocks zero = tt
 rising_among blocks (suc n) =
     let t = eqb (block_of blocks (suc n)) (suc n) in
     rising_append (blocks_among blocks n) (cond t (suc n ∷ []) []) (rising_among blocks n) (rising_one t (suc n))
     (λ x y i j. omega (arith, (of_among blocks n x i).1, of_one t (suc n) y j))
 
-rising_kept : (p : ℕ → Bool) (xs : List ℕ) → Rising xs → Rising (filter p xs)
+pub rising_kept : (p : ℕ → Bool) (xs : List ℕ) → Rising xs → Rising (filter p xs)
 rising_kept p [] r = tt
 rising_kept p (x ∷ xs) r =
     let ih = rising_kept p xs r.1 in
@@ -39,7 +39,7 @@ rising_kept p (x ∷ xs) r =
     (λ t. subst (λ (l : List ℕ). Rising l) (sym (cond-false (p x) (x ∷ filter p xs) (filter p xs) t)) ih)
     (cases_Bool (p x))
 
-least_of_chosen : (f : ℕ → ℕ) (xs : List ℕ) → (xs ≡ [] → ⊥) → Chosen (λ b a. ltb (f b) (f a)) xs (first_least_of f 0 xs)
+pub least_of_chosen : (f : ℕ → ℕ) (xs : List ℕ) → (xs ≡ [] → ⊥) → Chosen (λ b a. ltb (f b) (f a)) xs (first_least_of f 0 xs)
 least_of_chosen f [] some = absurd (some refl)
 least_of_chosen f (x ∷ xs) some = first_chosen (λ b a. ltb (f b) (f a)) (least_ranks f) x xs
 

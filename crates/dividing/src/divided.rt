@@ -1,7 +1,7 @@
-// A partition in tables, and what it costs.
+// A partition with its processing order, and what it costs.
 use joining::joined::Joined;
 
-#[derive(Clone, Copy)]
+#[derive(Debug, Drop, Eq, PartialEq)]
 pub struct Divided {
     pub joined: Joined,
     pub cost: u64,

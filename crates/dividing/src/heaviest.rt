@@ -1,5 +1,6 @@
 // The block with the greatest overhead.
-ghost use Rattle.std.specs.Prelude.{◌≡◌, ℕ, ◌≤◌, length, if◌then◌else◌, nat_lt, slice_index};
+ghost use Rattle.std.specs.Prelude.{◌≡◌, ℕ, slice_index};
+ghost use Rattle.std.specs.declared.cmp.Reverse.{Reverse};
 ghost use Rattle.partition.specs.Blocks.{block_list};
 ghost use Rattle.partition.specs.Times.{AtEach};
 ghost use Rattle.dividing.specs.Firsts.{first_greatest};
@@ -8,37 +9,31 @@ ghost use Rattle.dividing.specs.Views.{net_of, blocks_of};
 
 use machine::Machine;
 use partition::partition::Partition;
+use std::cmp::Reverse;
 
-// Of two blocks the one with the greater entry in a table, the first where they have the same.
-fn heavier(table: &[u64; 257], first: u32, second: u32) -> u32
-    requires first { first ≤ 256 }
-    requires second { second ≤ 256 }
-    ensures { result ≡ (if nat_lt (slice_index table.now first) (slice_index table.now second) then second else first) }
+// The less of these, the heavier the block: its entry in a table, the greater first, and then its number.
+fn rank(table: &[u64; 257], block: u32) -> (Reverse<u64>, u32)
+    ensures { result ≡ (record { 0 = slice_index table.now block }, block) }
 {
-    if table[first as usize] < table[second as usize] {
-        second
-    } else {
-        first
-    }
+    let entry = table.get(block as usize).copied().unwrap_or(0);
+    (Reverse(entry), block)
 }
 
 // The block with the greatest entry in a table, of several the one with the least number.
-fn heaviest_in(blocks: &[u32], table: &[u64; 257]) -> u32
-    requires few { length blocks.now ≤ 256 }
-    ensures { (f : ℕ → ℕ) → AtEach f table.now → result ≡ first_greatest f 1 (block_list blocks.now) }
+fn heaviest_in(partition: &Partition<'_>, table: &[u64; 257]) -> u32
+    ensures { (f : ℕ → ℕ) → AtEach f table.now → result ≡ first_greatest f 1 (block_list partition.now.blocks.now) }
 {
-    let mut best = 1;
-    for i in 0..blocks.len() {
-        if blocks[i] as usize == i + 1 {
-            best = heavier(table, best, blocks[i]);
-        }
-    }
-    best
+    let order = partition.order;
+    order
+        .iter()
+        .copied()
+        .min_by_key(|block| rank(table, *block))
+        .unwrap_or(1)
 }
 
 // The block with the greatest overhead on the machine, of several the one with the least number.
 pub fn heaviest<M: Machine>(partition: &Partition<'_>, machine: &M) -> u32
     ensures { result ≡ heaviest (M.meaning machine.now) (net_of partition.now) (blocks_of partition.now) }
 {
-    heaviest_in(partition.blocks, &partition.overheads(machine))
+    heaviest_in(partition, &partition.overheads(machine))
 }

@@ -1,25 +1,28 @@
-// A partition in tables of its own, and such tables as a partition.
-ghost use Rattle.std.specs.Prelude.{◌≡◌, ◌≤◌, length, take};
+// The blocks of a partition held apart from it, and a partition's tasks and links in such blocks.
+ghost use Rattle.std.specs.Prelude.{◌≡◌, ◌≤◌, length};
 ghost use Rattle.joining.specs.Outcomes.{blocks_in, order_in};
 ghost use Rattle.partition.specs.Sorted.{Sorted};
+ghost use Rattle.dividing.specs.Dividing.{cost_of};
 ghost use Rattle.dividing.specs.Tables.{Tables};
-ghost use Rattle.dividing.specs.Views.{Held};
+ghost use Rattle.dividing.specs.Views.{net_of};
 
-use graph::records::{Link, Task};
+use arrayvec::ArrayVec;
 use joining::joined::Joined;
+use machine::Machine;
 use partition::partition::Partition;
 
-// A table that has a list in its first places.
-fn table_of(list: &[u32]) -> [u32; 256]
+// A list in fixed room.
+fn table_of(list: &[u32]) -> ArrayVec<u32, 256>
     requires within { length list.now ≤ 256 }
-    ensures { take (length list.now) result ≡ list.now }
+    ensures { result.items ≡ list.now }
 {
-    let mut table = [0; 256];
-    table[0..list.len()].copy_from_slice(list);
+    let Ok(table) = ArrayVec::try_from(list) else {
+        unreachable!()
+    };
     table
 }
 
-// The blocks and the order of a partition, in tables.
+// The blocks and the order of a partition.
 pub(crate) fn in_tables(partition: &Partition<'_>) -> Joined
     ensures partition { blocks_in result ≡ partition.now.blocks.now }
     ensures order { order_in result ≡ partition.now.order.now }
@@ -27,33 +30,29 @@ pub(crate) fn in_tables(partition: &Partition<'_>) -> Joined
 {
     let blocks = table_of(partition.blocks);
     let order = table_of(partition.order);
-    Joined {
-        blocks,
-        tasks: partition.blocks.len(),
-        order,
-        count: partition.order.len(),
-    }
+    Joined { blocks, order }
 }
 
-// Tasks and links in blocks that tables hold, as a partition.
-pub(crate) fn in_blocks<'a>(
-    tasks: &'a [Task],
-    links: &'a [Link],
-    joined: &'a Joined,
-) -> Partition<'a>
-    requires held { Held tasks.now links.now }
-    requires sorted { Sorted (length tasks.now) links.now (blocks_in joined.now) (order_in joined.now) }
-    ensures tasks { result.tasks.now ≡ tasks.now }
-    ensures links { result.links.now ≡ links.now }
+// The tasks and links of a partition in other blocks.
+pub(crate) fn in_blocks<'a>(partition: &Partition<'a>, joined: &'a Joined) -> Partition<'a>
+    requires sorted { Sorted (length partition.now.tasks.now) partition.now.links.now (blocks_in joined.now) (order_in joined.now) }
+    ensures net { net_of result ≡ net_of partition.now }
     ensures blocks { result.blocks.now ≡ blocks_in joined.now }
-    ensures order { result.order.now ≡ order_in joined.now }
 {
     let blocks = joined.blocks();
     let order = joined.order();
     Partition {
-        tasks,
-        links,
+        tasks: partition.tasks,
+        links: partition.links,
         blocks,
         order,
     }
+}
+
+// What they cost in other blocks.
+pub(crate) fn cost_in<M: Machine>(partition: &Partition<'_>, joined: &Joined, machine: &M) -> u64
+    requires sorted { Sorted (length partition.now.tasks.now) partition.now.links.now (blocks_in joined.now) (order_in joined.now) }
+    ensures { result ≡ cost_of (M.meaning machine.now) (net_of partition.now) (blocks_in joined.now) }
+{
+    in_blocks(partition, joined).cost(machine)
 }

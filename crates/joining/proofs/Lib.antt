@@ -1,5 +1,5 @@
 pub mod Leading
-pub mod Looping
+pub mod Uniting
 pub mod Paths
 pub mod Least
 pub mod Agreeing

@@ -1,5 +1,5 @@
 -- What the code leaves is what joining means.
-use Rattle.std.proofs.Common.{◌≡◌, ℕ, ◌+◌, ◌-◌, ◌≤◌, Bool, true, false, eqb, List, length, get_or, take, Decides, sym, ap, ◌∙◌, subst, arith}
+use Rattle.std.proofs.Common.{◌≡◌, ℕ, ◌+◌, ◌-◌, ◌≤◌, Bool, true, false, eqb, List, length, get_or, Decides, sym, ap, ◌∙◌, subst, arith}
 use Rattle.std.proofs.lemmas.Bool.{false≢true, and_from, eqb-true, eq-eqb}
 use Rattle.graph.specs.declared.records.Link.{Link}
 use Rattle.chains.specs.Chains.{Enumerates, has}
@@ -14,9 +14,8 @@ use Rattle.partition.proofs.Counting.{counted, of_among, in_among}
 use Rattle.partition.proofs.Handling.{ends, ordered}
 use Rattle.partition.specs.Joins.{between, least_among, united, joining, order_after}
 use Rattle.joining.specs.Outcomes.{blocks_in, order_in, leading, number_of, JoinedFrom}
-use Rattle.joining.specs.Places.{InFront}
 use Rattle.partition.specs.Sorted.{Sorted}
-use Rattle.joining.specs.Tables.{reach_in, TellsReach, Small}
+use Rattle.joining.specs.Tables.{reach_in, TellsReach}
 use Rattle.joining.specs.Unions.{Union}
 use Rattle.joining.specs.declared.joined.Joined.{Joined}
 use Rattle.joining.proofs.Agreeing.{joining_same, order_same}
@@ -78,12 +77,6 @@ module _ (p : Partition) where
       let back : j.0 + 1 - 1 ≡ j.0 = omega arith in
       subst (λ k. In k order) (ap (λ k. get_or blocks k 0) back ∙ j.2) ((sorted_of p).listed (j.0 + 1) (omega arith) (omega (arith, j.1, p.all)))
 
-  pub small_order : Small order
-  small_order y i = ((ordered p).blocks y i).1
-
-  pub small_blocks : Small blocks
-  small_blocks y i = small_order y (known y i)
-
   decides : (a b : ℕ) → In a order → Decides (leading links blocks a b) (Reaches (messages links blocks) a b)
   decides a b i =
       leads_decides (messages links blocks) (length (block_list blocks)) a b
@@ -108,29 +101,25 @@ module _ (p : Partition) where
     order_is : order_after (reach_in rows) a b number order ≡ order_after (leading links blocks) a b (number_of links blocks a b) order
     order_is = order_same order (reach_in rows) (leading links blocks) tells a b ia ib blocks known
 
-    pub order_room : (k : ℕ) → k ≡ number → length (order_after (reach_in rows) a b k order) ≤ 256
-    order_room k e =
-        omega (arith, ap (λ v. length (order_after (reach_in rows) a b v order)) e, ap length order_is, after_sorted.ordered.short)
+    pub order_room : length (order_after (reach_in rows) a b number order) ≤ 256
+    order_room = omega (arith, ap length order_is, after_sorted.ordered.short)
 
-    pub outcome : (j : Joined) (k : ℕ) → k ≡ number → j.tasks ≡ length blocks
-        → take (length blocks) j.blocks ≡ united (between (reach_in rows) a b) k blocks
-        → InFront (order_after (reach_in rows) a b k order) j.order j.count
+    pub outcome : (j : Joined) (k : ℕ) → k ≡ number → blocks_in j ≡ united (between (reach_in rows) a b) k blocks → order_in j ≡ order_after (reach_in rows) a b k order
         → JoinedFrom n links blocks order a b j
-    outcome j k e all h f =
+    outcome j k e h f =
         let ins : blocks_in j ≡ joining (leading links blocks) blocks a b =
-        ap (λ m. take m j.blocks) all ∙ h ∙ ap (λ v. united (between (reach_in rows) a b) v blocks) e
-        ∙ joining_same order (reach_in rows) (leading links blocks) tells a b ia ib blocks known in
+        h ∙ ap (λ v. united (between (reach_in rows) a b) v blocks) e ∙ joining_same order (reach_in rows) (leading links blocks) tells a b ia ib blocks known in
         let next : order_in j ≡ order_after (leading links blocks) a b (number_of links blocks a b) order =
-        f.holds ∙ ap (λ v. order_after (reach_in rows) a b v order) e ∙ order_is in
+        f ∙ ap (λ v. order_after (reach_in rows) a b v order) e ∙ order_is in
         let sorted : Sorted n links (blocks_in j) (order_in j) =
         subst (λ (xs : List ℕ). Sorted n links xs (order_in j)) (sym ins) (subst (λ (ys : List ℕ). Sorted n links (joining (leading links blocks) blocks a b) ys) (sym next) after_sorted) in
         record {
           known = and_from _ _ ha hb;
-          all = all ∙ p.all;
+          all = sorted.partitions.all;
           joined = ins;
           ordering = next;
           sorted = sorted;
           union = subst (λ (xs : List ℕ). Union n links blocks a b xs) (sym ins)
               (union_after n links blocks order (sorted_of p) p.few (ends n links p.joined) p.small (leading links blocks) decides a b ia ib);
-          counted = f.long ∙ ap length (sym f.holds) ∙ sym (blocks_counted n links (blocks_in j) (order_in j) sorted);
+          counted = sym (blocks_counted n links (blocks_in j) (order_in j) sorted);
         }

@@ -1,6 +1,5 @@
-pub mod Joins
 pub mod Unions
 pub mod Tables
-pub mod Places
+pub mod Pairs
 pub mod Outcomes
 pub mod Examples

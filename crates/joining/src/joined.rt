@@ -1,16 +1,11 @@
 // The blocks of tasks after two were joined, with an order to process the blocks in.
-ghost use Rattle.std.specs.Prelude.{◌≤◌};
+use arrayvec::ArrayVec;
 
 pub mod view;
 
-// The block of each task in as many first places as there are tasks, and the processing order of the blocks in the
-// first `count` places; what stands behind them says nothing.
-#[derive(Clone, Copy)]
+// The block of each task, and the blocks in their processing order.
+#[derive(Debug, Drop, Eq, PartialEq)]
 pub struct Joined {
-    pub blocks: [u32; 256],
-    pub tasks: usize,
-    pub order: [u32; 256],
-    pub count: usize,
-    ghost within: { tasks ≤ 256 },
-    ghost short: { count ≤ 256 },
+    pub blocks: ArrayVec<u32, 256>,
+    pub order: ArrayVec<u32, 256>,
 }

@@ -3,4 +3,5 @@
 
 pub mod examples;
 pub mod joined;
+mod pair;
 pub mod reach;

@@ -1,11 +1,8 @@
 // Which blocks of a partition lead to which.
-ghost use Rattle.std.specs.Prelude.{length};
-ghost use Rattle.partition.specs.Blocks.{block_list, messages};
-ghost use Rattle.joining.specs.Tables.{TellsReach};
+ghost use Rattle.joining.specs.Tables.{Tells};
 
 use partition::partition::Partition;
 
-pub mod between;
 pub mod join;
 pub mod rows;
 
@@ -14,5 +11,5 @@ pub mod rows;
 pub struct Reach<'a> {
     pub partition: Partition<'a>,
     pub rows: [[bool; 257]; 257],
-    ghost tells: { TellsReach (messages partition.links.now partition.blocks.now) (length (block_list partition.blocks.now)) partition.order.now rows },
+    ghost tells: { Tells partition rows },
 }

@@ -9,13 +9,13 @@ impl Joined {
     pub fn blocks(&self) -> &[u32]
         ensures { result.now ≡ blocks_in self.now }
     {
-        &self.blocks[0..self.tasks]
+        self.blocks.as_slice()
     }
 
     // The blocks in their processing order.
     pub fn order(&self) -> &[u32]
         ensures { result.now ≡ order_in self.now }
     {
-        &self.order[0..self.count]
+        self.order.as_slice()
     }
 }

@@ -1,9 +1,11 @@
-use Rattle.std.proofs.Common.{⊎_elim, arith}
+use Rattle.std.proofs.Common.{◌≡◌, false, ltb, ◌∙◌, rules, arith}
 use Rattle.joining.proofs.Outcome.{block_here, block_nowhere}
 use Rattle.joining.proofs.reach.join.is_block.Goals as goal
 
-pub returns-then-task-eq0 : goal.returns-then-task-eq0
-returns-then-task-eq0 c = block_nowhere c.args.blocks.now c.args.number (λ lo hi. ⊎_elim (λ e. omega (arith, e, lo)) (λ e. omega (arith, e.1, hi)) c.then-task-eq0.either)
+pub returns-then-number-gt0 : goal.returns-then-number-gt0
+returns-then-number-gt0 c = search (rules, block_here, block_nowhere)
 
-pub returns : goal.returns
-returns c = block_here c.args.blocks.now c.args.number (omega arith) (omega arith)
+pub returns-else-number-gt0 : goal.returns-else-number-gt0
+returns-else-number-gt0 c =
+    let e : ltb 0 c.args.number ≡ false = search rules in
+    e ∙ block_nowhere c.args.blocks.now c.args.number (λ lo hi. omega (arith, lo, c.if-number-gt0.false))

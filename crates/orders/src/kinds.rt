@@ -7,7 +7,8 @@ ghost use Rattle.std.proofs.Common.{rules};
 use schedule::order::Priority;
 use schedule::priority::{Rank, Standing};
 
-// The greater level first.
+// The greater level first. This and the next differ in one field alone, and one type for both would need a parameter to
+// name that field.
 #[derive(Clone, Copy, Drop)]
 pub struct ByLevel;
 
@@ -30,13 +31,7 @@ pub struct Refined<A, B> {
 fn greater_ahead(one: u64, other: u64) -> Rank
     ensures { result ≡ greater_first one other }
 {
-    if one > other {
-        Rank::Ahead
-    } else if one < other {
-        Rank::Behind
-    } else {
-        Rank::Even
-    }
+    Rank::from(other.cmp(&one))
 }
 
 impl Priority for ByLevel {

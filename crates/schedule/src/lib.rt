@@ -3,6 +3,7 @@
 
 mod board;
 pub mod examples;
+mod one_of_two;
 pub mod order;
 pub mod priority;
 pub mod problem;

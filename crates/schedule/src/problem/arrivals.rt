@@ -16,10 +16,7 @@ fn delay_between<M: Machine>(machine: &M, from: u32, to: u32, size: u32) -> u64
     ensures value { result ≡ (M.meaning machine.now).delay from to size }
     ensures near { result ≤ 1000000000 }
 {
-    match machine.delay(from, to, size) {
-        Ok(delay) => delay,
-        Err(_) => 0,
-    }
+    machine.delay(from, to, size).unwrap_or(0)
 }
 
 // When data of a size that leaves at a row's finish is on a processor.

@@ -17,11 +17,7 @@ use machine::Machine;
 fn entry(table: &[u64; 257], block: u64) -> u64
     ensures { result ≡ slice_index table.now block }
 {
-    if block < 257 {
-        table[block as usize]
-    } else {
-        0
-    }
+    table.get(block as usize).copied().unwrap_or(0)
 }
 
 // The level and the time of a block.
@@ -68,14 +64,8 @@ fn first_of_two<O: Priority>(
     ensures { result ≡ first_of_two (earlier (O.meaning priority.now) (standing_in problem.now)) best row }
 {
     match best {
-        None => Some(row),
-        Some(other) => {
-            if comes_before(problem, priority, &row, &other) {
-                Some(row)
-            } else {
-                Some(other)
-            }
-        }
+        Some(other) if !comes_before(problem, priority, &row, &other) => best,
+        _ => Some(row),
     }
 }
 

@@ -5,9 +5,13 @@ use Rattle.chains.specs.declared.message.Message.{Message}
 use Rattle.machine.specs.Model.{Model}
 use Rattle.schedule.specs.declared.board.Board.{Board}
 use Rattle.schedule.specs.declared.rows.Row.{Row}
+use Rattle.schedule.specs.declared.problem.Problem.{Problem as Lent}
+use Rattle.schedule.specs.Orders.{Order}
 use Rattle.schedule.specs.Problems.{Problem}
+use Rattle.schedule.specs.Seen.{seen, earlier_in, stepped}
 use Rattle.schedule.specs.Placing.{is_placed, is_fed, is_candidate, start_on, earliest_upto, earliest, row_of, first_of_two, first_among, chosen, with_row, placed}
-use Rattle.schedule.specs.Boards.{laid, limit, Shows}
+use Rattle.schedule.specs.Boards.{laid, count, limit}
+use Rattle.schedule.proofs.Boarding.{Shows}
 
 -- one processor more
 pub earliest_more : (M : Model) (g : Problem) (rows : List Row) (b p : ℕ) → 1 ≤ p → (best : ℕ × ℕ) → best ≡ earliest_upto M g rows b (p - 1) → (s : ℕ) → s ≡ start_on M g rows b p
@@ -32,11 +36,11 @@ earliest_is M g rows b (suc n) =
     elim (ltb s old.0) as (λ v. P (cond v (s, suc n) old)) [ true ↦ (omega arith, refl) | false ↦ (omega (arith, again.0), again.1) ]
 
 -- a start on a processor that exists is soon
-pub start_soon : (M : Model) (g : Problem) (board : Board) → Shows M g board → (b p : ℕ) → b ≤ 256 → p < M.processors → start_on M g (laid board) b p ≤ limit board.count + 1000000000
-start_soon M g board s b p lb lp = omega (arith, s.frees p lp, s.arrived b p lb lp, s.soon p lp, s.near b p lb lp)
+pub start_soon : (M : Model) (g : Problem) (board : Board) → Shows M g board → (b p : ℕ) → b ≤ 256 → p < M.processors → start_on M g (laid board) b p ≤ limit (count board) + 1000000000
+start_soon M g board s b p lb lp = omega (arith, s.frees p lp, s.arrived b p lb lp, s.free_soon p lp, s.arrive_soon b p lb lp)
 
 pub earliest_known : (M : Model) (g : Problem) (board : Board) → Shows M g board → 1 ≤ M.processors → (b : ℕ) → b ≤ 256
-    → ((earliest M g (laid board) b).0 ≤ limit board.count + 1000000000) × ((earliest M g (laid board) b).1 < M.processors)
+    → ((earliest M g (laid board) b).0 ≤ limit (count board) + 1000000000) × ((earliest M g (laid board) b).1 < M.processors)
 earliest_known M g board s some b lb =
     let e = earliest_is M g (laid board) b (M.processors - 1) in
     let lt : (earliest M g (laid board) b).1 < M.processors = omega (arith, e.0, some) in
@@ -69,9 +73,10 @@ pub among_all : (M : Model) (g : Problem) (earlier : ℕ → ℕ → Bool) (rows
     → first_among M g earlier rows best (drop i bs) ≡ whole → best ≡ whole
 among_all M g earlier rows bs i le best whole e = sym (at_drop_all (λ (rest : List ℕ). first_among M g earlier rows best rest) bs i le) ∙ e
 
--- one step more
-pub placed_more : (M : Model) (g : Problem) (earlier : ℕ → ℕ → Bool) (k : ℕ) (rows next : List Row) → rows ≡ placed M g earlier k → next ≡ with_row rows (chosen M g earlier rows)
-    → next ≡ placed M g earlier (k + 1)
-placed_more M g earlier k rows next e en =
+-- one step more, by what is the same
+pub placed_more : (M M' : Model) (p p' : Lent) (o o' : Order) (k : ℕ) (rows next : List Row) → M' ≡ M → p' ≡ p → o' ≡ o → rows ≡ placed M (seen p) (earlier_in o p) k
+    → next ≡ stepped M' p' o' rows → next ≡ placed M (seen p) (earlier_in o p) (k + 1)
+placed_more M M' p p' o o' k rows next eM ep eo e en =
     let up : suc k ≡ k + 1 = omega arith in
-    en ∙ ap (λ (rs : List Row). with_row rs (chosen M g earlier rs)) e ∙ ap (placed M g earlier) up
+    en ∙ ap (λ (m : Model). stepped m p' o' rows) eM ∙ ap (λ (q : Lent). stepped M q o' rows) ep ∙ ap (λ (q : Order). stepped M p q rows) eo
+    ∙ ap (λ (rs : List Row). stepped M p o rs) e ∙ ap (placed M (seen p) (earlier_in o p)) up

@@ -7,6 +7,7 @@ ghost use Rattle.chains.specs.declared.message.Message.{Message as Sent};
 use chains::message::Message;
 
 mod arrivals;
+mod bench;
 mod boards;
 mod choosing;
 pub mod placing;

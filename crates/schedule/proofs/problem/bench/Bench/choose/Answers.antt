@@ -1,32 +1,27 @@
 use Rattle.chains.proofs.Lists.{in_getD}
 use Rattle.schedule.specs.Boards.{laid}
-use Rattle.schedule.specs.Orders.{earlier}
 use Rattle.schedule.specs.Placing.{chosen}
-use Rattle.schedule.specs.Seen.{seen, standing_in}
+use Rattle.schedule.specs.Seen.{seen, earlier_in}
 use Rattle.schedule.proofs.Choosing.{among_more, among_all}
-use Rattle.schedule.proofs.problem.choosing.choose.Goals as goal
+use Rattle.schedule.proofs.problem.bench.Bench.choose.Goals as goal
 
 pub with_block-best-requires : goal.with_block-best-requires
 with_block-best-requires g c =
-    let law = g.met.M.Machine.lawful c.args.machine.now in
-    let p = c.args.problem.now in
+    let p = c.args.self.now.problem.now in
     let i = in_getD p.blocks.now c.loop-block.block-index 0 c.loop-block-test.true in
     record {
-      shows = c.requires.shows;
-      some = law.some;
-      few = law.few;
-      known = (p.numbered _ i).1;
-      brief = p.brief _ i;
+      listed = i;
       feeds = c.fed_blocks-fed.ensures _ (p.numbered _ i).1;
       fits = c.loop-block.invariant.1;
     }
 
 pub loop-block-preserved : goal.loop-block-preserved
 loop-block-preserved g c =
-    let M = g.M.Machine.meaning c.args.machine.now in
-    let p = c.args.problem.now in
-    let e = earlier (g.O.Priority.meaning c.args.priority.now) (standing_in p) in
-    let rows = laid c.args.board.now in (
+    let s = c.args.self.now in
+    let M = g.M.Machine.meaning s.machine.now in
+    let p = s.problem.now in
+    let e = earlier_in (g.O.Priority.meaning s.priority.now) p in
+    let rows = laid s.board in (
       among_more M (seen p) e rows p.blocks.now c.loop-block.block-index c.loop-block-test.true c.loop-block.best c.with_block-best.result (chosen M (seen p) e rows)
           c.with_block-best.ensures.value c.loop-block.invariant.0,
       c.with_block-best.ensures.fits,
@@ -34,10 +29,11 @@ loop-block-preserved g c =
 
 pub returns : goal.returns
 returns g c =
-    let M = g.M.Machine.meaning c.args.machine.now in
-    let p = c.args.problem.now in
-    let e = earlier (g.O.Priority.meaning c.args.priority.now) (standing_in p) in
-    let rows = laid c.args.board.now in
+    let s = c.args.self.now in
+    let M = g.M.Machine.meaning s.machine.now in
+    let p = s.problem.now in
+    let e = earlier_in (g.O.Priority.meaning s.priority.now) p in
+    let rows = laid s.board in
     record {
       value = among_all M (seen p) e rows p.blocks.now c.loop-block.block-index c.loop-block-test.false c.loop-block.best (chosen M (seen p) e rows) c.loop-block.invariant.0;
       fits = c.loop-block.invariant.1;

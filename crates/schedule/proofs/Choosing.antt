@@ -1,6 +1,7 @@
 -- The earliest start, which blocks are fed, what is best and the rows, one more at a time.
-use Rattle.std.proofs.Common.{◌≡◌, ℕ, zero, suc, ◌+◌, ◌-◌, ◌<◌, ◌≤◌, Bool, true, false, cond, not, ◌&&◌, ◌||◌, eqb, ltb, List, [], ◌∷◌, ◌++◌, length, get_or, take, drop, Option, sym, refl, ap, ◌∙◌, subst, ap₂, arith}
+use Rattle.std.proofs.Common.{◌≡◌, ℕ, zero, suc, ◌+◌, ◌-◌, ◌^◌, ◌<◌, ◌≤◌, Bool, true, false, cond, not, ◌&&◌, ◌||◌, eqb, ltb, List, [], ◌∷◌, ◌++◌, length, get_or, take, drop, Option, Some, None, inl, inr, sym, refl, ap, ◌∙◌, subst, ap₂, arith}
 use Rattle.std.proofs.lemmas.List.{take_more, at_drop_more, at_drop_all}
+use Rattle.chains.specs.Lists.{In}
 use Rattle.chains.specs.declared.message.Message.{Message}
 use Rattle.machine.specs.Model.{Model}
 use Rattle.schedule.specs.declared.board.Board.{Board}
@@ -9,8 +10,8 @@ use Rattle.schedule.specs.declared.problem.Problem.{Problem as Lent}
 use Rattle.schedule.specs.Orders.{Order}
 use Rattle.schedule.specs.Problems.{Problem}
 use Rattle.schedule.specs.Seen.{seen, earlier_in, stepped}
-use Rattle.schedule.specs.Placing.{is_placed, is_fed, is_candidate, start_on, earliest_upto, earliest, row_of, first_of_two, first_among, chosen, with_row, placed}
-use Rattle.schedule.specs.Boards.{laid, count, limit}
+use Rattle.schedule.specs.Placing.{is_placed, is_fed, is_candidate, start_on, earliest_upto, earliest, row_of, comes_before, first_of_two, first_among, chosen, with_row, placed}
+use Rattle.schedule.specs.Boards.{laid, count, limit, Fitting}
 use Rattle.schedule.proofs.Boarding.{Shows}
 
 -- one processor more
@@ -80,3 +81,30 @@ placed_more M M' p p' o o' k rows next eM ep eo e en =
     let up : suc k ≡ k + 1 = omega arith in
     en ∙ ap (λ (m : Model). stepped m p' o' rows) eM ∙ ap (λ (q : Lent). stepped M q o' rows) ep ∙ ap (λ (q : Order). stepped M p q rows) eo
     ∙ ap (λ (rs : List Row). stepped M p o rs) e ∙ ap (placed M (seen p) (earlier_in o p)) up
+
+-- the row of a block of the problem can come next
+row_fits : (M : Model) (g : Problem) (board : Board) → Shows M g board → 1 ≤ M.processors → (b : ℕ) → b ≤ 256 → g.time b < 2 ^ 40
+    → Fitting M.processors (count board) (Some (row_of M g (laid board) b))
+row_fits M g board s some b lb lt =
+    let e = earliest_known M g board s some b lb in
+    (lb, e.1, omega (arith, e.0, lt))
+
+first_fits : (P n : ℕ) (earlier : ℕ → ℕ → Bool) (best : Option Row) (r : Row) → Fitting P n best → Fitting P n (Some r) → Fitting P n (first_of_two earlier best r)
+first_fits P n earlier None r h k = k
+first_fits P n earlier (Some x) r h k =
+    elim (comes_before earlier r x) as (λ v. Fitting P n (cond v (Some r) (Some x))) [ true ↦ k | false ↦ h ]
+
+among_fits : (M : Model) (g : Problem) (earlier : ℕ → ℕ → Bool) (rows : List Row) (n : ℕ) (bs : List ℕ) → ((b : ℕ) → In b bs → Fitting M.processors n (Some (row_of M g rows b)))
+    → (best : Option Row) → Fitting M.processors n best → Fitting M.processors n (first_among M g earlier rows best bs)
+among_fits M g earlier rows n [] h best k = k
+among_fits M g earlier rows n (b ∷ bs) h best k =
+    let next : Fitting M.processors n (cond (is_candidate g rows b) (first_of_two earlier best (row_of M g rows b)) best) =
+    elim (is_candidate g rows b) as (λ v. Fitting M.processors n (cond v (first_of_two earlier best (row_of M g rows b)) best))
+    [ true ↦ first_fits M.processors n earlier best (row_of M g rows b) k (h b (inl refl)) | false ↦ k ] in
+    among_fits M g earlier rows n bs (λ x i. h x (inr i)) (cond (is_candidate g rows b) (first_of_two earlier best (row_of M g rows b)) best) next
+
+-- the row that comes next, where there is one, can come next
+pub chosen_fits : (M : Model) (g : Problem) (earlier : ℕ → ℕ → Bool) (board : Board) → Shows M g board → 1 ≤ M.processors → ((b : ℕ) → In b g.blocks → (b ≤ 256) × (g.time b < 2 ^ 40))
+    → Fitting M.processors (count board) (chosen M g earlier (laid board))
+chosen_fits M g earlier board s some h =
+    among_fits M g earlier (laid board) (count board) g.blocks (λ b i. row_fits M g board s some b (h b i).0 (h b i).1) None tt

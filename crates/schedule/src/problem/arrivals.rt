@@ -30,16 +30,14 @@ impl<'a, M: Machine> Sender<'a, M> {
     }
 
     // When data is on each processor, once what leaves at the row's finish has come too.
-    fn with_arrival(&self, size: u32, before: [u64; 32]) -> [u64; 32]
+    fn arrive(&self, size: u32, on: &mut [u64; 32])
         requires { size ≤ 1000000 }
-        ensures { (p : ℕ) → p < (M.meaning self.now.machine.now).processors → slice_index result p ≡ max (slice_index before p) (self.now.row.finish + (M.meaning self.now.machine.now).delay self.now.row.processor p size) }
+        ensures { (p : ℕ) → p < (M.meaning self.now.machine.now).processors → slice_index on.new p ≡ max (slice_index on.old p) (self.now.row.finish + (M.meaning self.now.machine.now).delay self.now.row.processor p size) }
     {
-        let mut on = before;
-        for to in 0..self.machine.processors() {
-            let time = self.row.finish + self.delay(to, size);
-            on[to as usize] = time.max(before[to as usize]);
+        let processors = self.machine.processors() as usize;
+        for (to, time) in on[..processors].iter_mut().enumerate() {
+            *time = (*time).max(self.row.finish + self.delay(to as u32, size));
         }
-        on
     }
 
     // The table of arrivals once a message that leaves at the row's finish has come, if the row's block sends it.
@@ -49,8 +47,7 @@ impl<'a, M: Machine> Sender<'a, M> {
         ensures { (b p : ℕ) → b ≤ 256 → p < (M.meaning self.now.machine.now).processors → arrived_at arrivals.new b p ≡ max (arrived_at arrivals.old b p) (sent (M.meaning self.now.machine.now) self.now.row b p message.now) }
     {
         if u64::from(message.from) == self.row.block {
-            let to = message.to as usize;
-            arrivals[to] = self.with_arrival(message.size, arrivals[to]);
+            self.arrive(message.size, &mut arrivals[message.to as usize]);
         }
     }
 

@@ -1,7 +1,7 @@
 // Which row comes next.
-ghost use Rattle.std.specs.Prelude.{◌≡◌, ℕ, ◌+◌, ◌^◌, ◌<◌, ◌≤◌, false, not, ◌&&◌, ◌||◌, if◌then◌else◌, ◌==◌, nat_lt, slice_index, slice_index_or};
+ghost use Rattle.std.specs.Prelude.{◌≡◌, ℕ, ◌<◌, ◌≤◌, false, not, ◌&&◌, ◌||◌, if◌then◌else◌, ◌==◌, nat_lt, slice_index, slice_index_or};
 ghost use Rattle.chains.specs.Lists.{In};
-ghost use Rattle.schedule.specs.Boards.{laid, count, limit, Fitting};
+ghost use Rattle.schedule.specs.Boards.{laid};
 ghost use Rattle.schedule.specs.Placing.{is_fed, is_candidate, start_on, earliest, row_of, comes_before, first_of_two, chosen};
 ghost use Rattle.schedule.specs.Seen.{seen, standing_in, earlier_in};
 
@@ -103,9 +103,7 @@ impl<'a, M: Machine, O: Priority> Bench<'a, M, O> {
     // The earliest start of a block, and the lowest processor that has it.
     fn earliest(&self, block: u32) -> (u64, u32)
         requires { block ≤ 256 }
-        ensures value { result ≡ earliest (M.Machine.meaning self.now.machine.now) (seen self.now.problem.now) (laid self.now.board) block }
-        ensures soon { result.0 ≤ limit (count self.now.board) + 1000000000 }
-        ensures exists { result.1 < (M.Machine.meaning self.now.machine.now).processors }
+        ensures { result ≡ earliest (M.Machine.meaning self.now.machine.now) (seen self.now.problem.now) (laid self.now.board) block }
     {
         let mut best = (self.start_on(block, 0), 0);
         for processor in 1..self.machine.processors() {
@@ -129,8 +127,7 @@ impl<'a, M: Machine, O: Priority> Bench<'a, M, O> {
     // The row of a block at its earliest start.
     fn row_of(&self, block: u32) -> Row
         requires { In block self.now.problem.now.blocks.now }
-        ensures value { result ≡ row_of (M.Machine.meaning self.now.machine.now) (seen self.now.problem.now) (laid self.now.board) block }
-        ensures fits { Fitting (M.Machine.meaning self.now.machine.now).processors (count self.now.board) (Some result) }
+        ensures { result ≡ row_of (M.Machine.meaning self.now.machine.now) (seen self.now.problem.now) (laid self.now.board) block }
     {
         let (start, processor) = self.earliest(block);
         Row {
@@ -145,9 +142,7 @@ impl<'a, M: Machine, O: Priority> Bench<'a, M, O> {
     fn with_block(&self, fed: &[bool; 257], best: Option<Row>, block: u32) -> Option<Row>
         requires listed { In block self.now.problem.now.blocks.now }
         requires feeds { slice_index_or fed.now block false ≡ is_fed self.now.problem.now.messages.now (laid self.now.board) block }
-        requires fits { Fitting (M.Machine.meaning self.now.machine.now).processors (count self.now.board) best }
-        ensures value { result ≡ (if is_candidate (seen self.now.problem.now) (laid self.now.board) block then first_of_two (earlier_in (O.Priority.meaning self.now.priority.now) self.now.problem.now) best (row_of (M.Machine.meaning self.now.machine.now) (seen self.now.problem.now) (laid self.now.board) block) else best) }
-        ensures fits { Fitting (M.Machine.meaning self.now.machine.now).processors (count self.now.board) result }
+        ensures { result ≡ (if is_candidate (seen self.now.problem.now) (laid self.now.board) block then first_of_two (earlier_in (O.Priority.meaning self.now.priority.now) self.now.problem.now) best (row_of (M.Machine.meaning self.now.machine.now) (seen self.now.problem.now) (laid self.now.board) block) else best) }
     {
         if self.board.placed[block as usize] || !fed[block as usize] {
             return best;
@@ -157,8 +152,7 @@ impl<'a, M: Machine, O: Priority> Bench<'a, M, O> {
 
     // The row that comes next, where there is a candidate.
     pub(crate) fn choose(&self) -> Option<Row>
-        ensures value { result ≡ chosen (M.Machine.meaning self.now.machine.now) (seen self.now.problem.now) (earlier_in (O.Priority.meaning self.now.priority.now) self.now.problem.now) (laid self.now.board) }
-        ensures fits { Fitting (M.Machine.meaning self.now.machine.now).processors (count self.now.board) result }
+        ensures { result ≡ chosen (M.Machine.meaning self.now.machine.now) (seen self.now.problem.now) (earlier_in (O.Priority.meaning self.now.priority.now) self.now.problem.now) (laid self.now.board) }
     {
         let fed = self.fed_blocks();
         let mut best = None;

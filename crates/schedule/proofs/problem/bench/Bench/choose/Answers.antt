@@ -9,11 +9,7 @@ pub with_block-best-requires : goal.with_block-best-requires
 with_block-best-requires g c =
     let p = c.args.self.now.problem.now in
     let i = in_getD p.blocks.now c.loop-block.block-index 0 c.loop-block-test.true in
-    record {
-      listed = i;
-      feeds = c.fed_blocks-fed.ensures _ (p.numbered _ i).1;
-      fits = c.loop-block.invariant.1;
-    }
+    record { listed = i; feeds = c.fed_blocks-fed.ensures _ (p.numbered _ i).1 }
 
 pub loop-block-preserved : goal.loop-block-preserved
 loop-block-preserved g c =
@@ -21,11 +17,9 @@ loop-block-preserved g c =
     let M = g.M.Machine.meaning s.machine.now in
     let p = s.problem.now in
     let e = earlier_in (g.O.Priority.meaning s.priority.now) p in
-    let rows = laid s.board in (
-      among_more M (seen p) e rows p.blocks.now c.loop-block.block-index c.loop-block-test.true c.loop-block.best c.with_block-best.result (chosen M (seen p) e rows)
-          c.with_block-best.ensures.value c.loop-block.invariant.0,
-      c.with_block-best.ensures.fits,
-    )
+    let rows = laid s.board in
+    among_more M (seen p) e rows p.blocks.now c.loop-block.block-index c.loop-block-test.true c.loop-block.best c.with_block-best.result (chosen M (seen p) e rows)
+    c.with_block-best.ensures c.loop-block.invariant
 
 pub returns : goal.returns
 returns g c =
@@ -34,7 +28,4 @@ returns g c =
     let p = s.problem.now in
     let e = earlier_in (g.O.Priority.meaning s.priority.now) p in
     let rows = laid s.board in
-    record {
-      value = among_all M (seen p) e rows p.blocks.now c.loop-block.block-index c.loop-block-test.false c.loop-block.best (chosen M (seen p) e rows) c.loop-block.invariant.0;
-      fits = c.loop-block.invariant.1;
-    }
+    among_all M (seen p) e rows p.blocks.now c.loop-block.block-index c.loop-block-test.false c.loop-block.best (chosen M (seen p) e rows) c.loop-block.invariant

@@ -1,5 +1,5 @@
 use Rattle.std.proofs.Common.{◌≡◌, drop}
-use Rattle.schedule.specs.Boards.{laid, count, Fitting}
+use Rattle.schedule.specs.Boards.{laid}
 use Rattle.schedule.specs.Placing.{first_among, chosen}
 use Rattle.schedule.specs.Seen.{seen, earlier_in}
 use Rattle.schedule.proofs.problem.bench.Bench.choose.Given as goal
@@ -10,5 +10,4 @@ invariant-loop-block g l =
     let M = g.M.Machine.meaning l.self.machine.now in
     let p = l.self.problem.now in
     let e = earlier_in (g.O.Priority.meaning l.self.priority.now) p in
-    (first_among M (seen p) e (laid l.self.board) l.best (drop l.block-index p.blocks.now) ≡ chosen M (seen p) e (laid l.self.board))
-    × Fitting M.processors (count l.self.board) l.best
+    first_among M (seen p) e (laid l.self.board) l.best (drop l.block-index p.blocks.now) ≡ chosen M (seen p) e (laid l.self.board)

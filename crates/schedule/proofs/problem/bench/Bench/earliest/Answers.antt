@@ -1,9 +1,8 @@
-use Rattle.std.proofs.Common.{◌≡◌, ℕ, ◌-◌, ap, ◌∙◌, arith}
+use Rattle.std.proofs.Common.{◌≡◌, ◌-◌, ap, ◌∙◌, arith}
 use Rattle.schedule.specs.Boards.{laid}
-use Rattle.schedule.specs.Placing.{earliest_upto, earliest}
+use Rattle.schedule.specs.Placing.{earliest_upto}
 use Rattle.schedule.specs.Seen.{seen}
-use Rattle.schedule.proofs.Boarding.{Shows}
-use Rattle.schedule.proofs.Choosing.{earliest_more, earliest_known}
+use Rattle.schedule.proofs.Choosing.{earliest_more}
 use Rattle.schedule.proofs.problem.bench.Bench.earliest.Goals as goal
 
 pub loop-processor-preserved : goal.loop-processor-preserved
@@ -21,9 +20,4 @@ returns g c =
     let p = seen b.problem.now in
     let rows = laid b.board in
     let end : c.loop-processor.processor - 1 ≡ M.processors - 1 = omega (arith, c.loop-processor-test.false, c.loop-processor.auto.processor, c.loop-processor.auto.processor-end, law.some, c.processors-processor-end.ensures) in
-    let e : c.loop-processor.best ≡ earliest M p rows c.args.block = c.loop-processor.invariant ∙ ap (earliest_upto M p rows c.args.block) end in
-    let s : Shows M p b.board = record { few = b.few; wide = b.wide; all = b.all; marks = b.marks; frees = b.frees; arrived = b.arrived; last = b.last; free_soon = b.free_soon; arrive_soon = b.arrive_soon } in
-    let k = earliest_known M p b.board s law.some c.args.block c.requires in
-    let e0 = ap (λ (x : ℕ × ℕ). x.0) e in
-    let e1 = ap (λ (x : ℕ × ℕ). x.1) e in
-    record { value = e; soon = omega (arith, k.0, e0); exists = omega (arith, k.1, e1) }
+    c.loop-processor.invariant ∙ ap (earliest_upto M p rows c.args.block) end

@@ -10,7 +10,7 @@ use Rattle.schedule.specs.declared.problem.Problem.{Problem as Lent}
 use Rattle.schedule.specs.Orders.{Order}
 use Rattle.schedule.specs.Problems.{Problem}
 use Rattle.schedule.specs.Seen.{seen, earlier_in, stepped}
-use Rattle.schedule.specs.Placing.{is_placed, is_fed, is_candidate, start_on, earliest_upto, earliest, row_of, comes_before, first_of_two, first_among, chosen, with_row, placed}
+use Rattle.schedule.specs.Placing.{is_placed, is_fed, is_candidate, start_on, earliest_upto, earliest, row_of, comes_before, first_of_two, first_among, chosen, placed}
 use Rattle.schedule.specs.Boards.{laid, count, limit, Fitting}
 use Rattle.schedule.proofs.Boarding.{Shows}
 

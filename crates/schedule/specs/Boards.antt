@@ -4,7 +4,7 @@ use Rattle.chains.specs.declared.message.Message.{Message}
 use Rattle.machine.specs.Model.{Model}
 use Rattle.schedule.specs.declared.board.Board.{Board}
 use Rattle.schedule.specs.declared.rows.Row.{Row}
-use Rattle.schedule.specs.Problems.{Problem, length_of}
+use Rattle.schedule.specs.Problems.{Problem}
 use Rattle.schedule.specs.Placing.{is_placed, free, data_at}
 
 -- the rows on a board

@@ -1,4 +1,5 @@
 // The rows placed so far, with what placing asks of them at hand. This file has no clause, so that the specs may name its type.
+use crate::limits::{MAX_BLOCKS, MAX_PROCESSORS, NUMBERS};
 use crate::rows::Row;
 use arrayvec::ArrayVec;
 
@@ -6,9 +7,9 @@ use arrayvec::ArrayVec;
 // the greatest finish. What is at hand of a block stands at its number, and what is at hand of a processor at its own.
 #[derive(Drop)]
 pub struct Board {
-    pub rows: ArrayVec<Row, 256>,
-    pub placed: [bool; 257],
-    pub free: [u64; 32],
-    pub arrivals: [[u64; 32]; 257],
+    pub rows: ArrayVec<Row, MAX_BLOCKS>,
+    pub placed: [bool; NUMBERS],
+    pub free: [u64; MAX_PROCESSORS],
+    pub arrivals: [[u64; MAX_PROCESSORS]; NUMBERS],
     pub length: u64,
 }

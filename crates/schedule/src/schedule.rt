@@ -1,4 +1,5 @@
 // A schedule as placing makes it. This file has no clause, so that the specs may name its type.
+use crate::limits::MAX_BLOCKS;
 use crate::rows::Row;
 use arrayvec::ArrayVec;
 
@@ -7,6 +8,6 @@ pub mod reading;
 // The rows in the order in which they were placed, and the greatest finish.
 #[derive(Drop)]
 pub struct Schedule {
-    pub rows: ArrayVec<Row, 256>,
+    pub rows: ArrayVec<Row, MAX_BLOCKS>,
     pub length: u64,
 }

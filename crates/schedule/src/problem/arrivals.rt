@@ -3,6 +3,7 @@ ghost use Rattle.std.specs.Prelude.{◌≡◌, ℕ, ◌+◌, ◌^◌, ◌<◌, �
 ghost use Rattle.chains.specs.Lists.{greatest};
 ghost use Rattle.schedule.specs.Boards.{arrived_at, sent};
 
+use crate::limits::{MAX_PROCESSORS, NUMBERS};
 use crate::problem::Problem;
 use crate::rows::Row;
 use chains::message::Message;
@@ -30,7 +31,7 @@ impl<'a, M: Machine> Sender<'a, M> {
     }
 
     // When data is on each processor, once what leaves at the row's finish has come too.
-    fn arrive(&self, size: u32, on: &mut [u64; 32])
+    fn arrive(&self, size: u32, on: &mut [u64; MAX_PROCESSORS])
         requires { size ≤ 1000000 }
         ensures { (p : ℕ) → p < (M.meaning self.now.machine.now).processors → slice_index on.new p ≡ max (slice_index on.old p) (self.now.row.finish + (M.meaning self.now.machine.now).delay self.now.row.processor p size) }
     {
@@ -41,7 +42,7 @@ impl<'a, M: Machine> Sender<'a, M> {
     }
 
     // The table of arrivals once a message that leaves at the row's finish has come, if the row's block sends it.
-    fn receive(&self, message: &Message, arrivals: &mut [[u64; 32]; 257])
+    fn receive(&self, message: &Message, arrivals: &mut [[u64; MAX_PROCESSORS]; NUMBERS])
         requires small { message.now.size ≤ 1000000 }
         requires known { message.now.to ≤ 256 }
         ensures { (b p : ℕ) → b ≤ 256 → p < (M.meaning self.now.machine.now).processors → arrived_at arrivals.new b p ≡ max (arrived_at arrivals.old b p) (sent (M.meaning self.now.machine.now) self.now.row b p message.now) }
@@ -52,7 +53,7 @@ impl<'a, M: Machine> Sender<'a, M> {
     }
 
     // The table of arrivals once all that the row's block sends has come.
-    pub(crate) fn send(&self, problem: &Problem, arrivals: &mut [[u64; 32]; 257])
+    pub(crate) fn send(&self, problem: &Problem, arrivals: &mut [[u64; MAX_PROCESSORS]; NUMBERS])
         ensures { (b p : ℕ) → b ≤ 256 → p < (M.meaning self.now.machine.now).processors → arrived_at arrivals.new b p ≡ max (arrived_at arrivals.old b p) (greatest (sent (M.meaning self.now.machine.now) self.now.row b p) problem.now.messages.now) }
     {
         for message in problem.messages {

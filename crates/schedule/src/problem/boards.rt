@@ -3,6 +3,7 @@ ghost use Rattle.std.specs.Prelude.{◌≡◌, ◌+◌, ◌<◌, ◌≤◌, max,
 ghost use Rattle.schedule.specs.Boards.{laid, count, Fitting};
 
 use crate::board::Board;
+use crate::limits::{MAX_PROCESSORS, NUMBERS};
 use crate::order::Priority;
 use crate::problem::Problem;
 use crate::problem::arrivals::Sender;
@@ -41,9 +42,9 @@ impl<'a, M: Machine, O: Priority> Bench<'a, M, O> {
     {
         let board = Board {
             rows: ArrayVec::new(),
-            placed: [false; 257],
-            free: [0; 32],
-            arrivals: [[0; 32]; 257],
+            placed: [false; NUMBERS],
+            free: [0; MAX_PROCESSORS],
+            arrivals: [[0; MAX_PROCESSORS]; NUMBERS],
             length: 0,
         };
         Bench {

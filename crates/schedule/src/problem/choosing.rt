@@ -5,6 +5,7 @@ ghost use Rattle.schedule.specs.Boards.{laid};
 ghost use Rattle.schedule.specs.Placing.{is_fed, is_candidate, start_on, earliest, row_of, comes_before, first_of_two, chosen};
 ghost use Rattle.schedule.specs.Seen.{seen, standing_in, earlier_in};
 
+use crate::limits::NUMBERS;
 use crate::order::{Priority, is_earlier};
 use crate::priority::Standing;
 use crate::problem::Problem;
@@ -14,25 +15,22 @@ use chains::message::Message;
 use machine::Machine;
 
 // The entry of a block in a table, 0 past its end.
-fn entry(table: &[u64; 257], block: u64) -> u64
+fn entry(table: &[u64; NUMBERS], block: u64) -> u64
     ensures { result ≡ slice_index table.now block }
 {
     table.get(block as usize).copied().unwrap_or(0)
 }
 
-// What is sooner: the best so far, or a start on one processor more.
-fn sooner(best: (u64, u32), start: u64, processor: u32) -> (u64, u32)
-    ensures { result ≡ (if nat_lt start best.0 then (start, processor) else best) }
+// What is sooner: the best start so far, with its processor, or the next; the best so far where they are equal. The
+// library's min_by_key says no more than the test, and takes a closure and a proof by hand.
+fn sooner(best: (u64, u32), next: (u64, u32)) -> (u64, u32)
+    ensures { result ≡ (if nat_lt next.0 best.0 then next else best) }
 {
-    if start < best.0 {
-        (start, processor)
-    } else {
-        best
-    }
+    if next.0 < best.0 { next } else { best }
 }
 
 // A block stays fed if this message does not come to it from a block without a row.
-fn wait_for(message: &Message, placed: &[bool; 257], fed: &mut [bool; 257])
+fn wait_for(message: &Message, placed: &[bool; NUMBERS], fed: &mut [bool; NUMBERS])
     requires from { message.now.from ≤ 256 }
     requires to { message.now.to ≤ 256 }
     ensures { (b : ℕ) → b ≤ 256 → slice_index_or fed.new b false ≡ ((not (message.now.to == b) || slice_index_or placed.now message.now.from false) && slice_index_or fed.old b false) }
@@ -73,11 +71,8 @@ impl<'a, M: Machine, O: Priority> Bench<'a, M, O> {
     fn comes_before(&self, one: &Row, other: &Row) -> bool
         ensures { result ≡ comes_before (earlier_in (O.Priority.meaning self.now.priority.now) self.now.problem.now) one.now other.now }
     {
-        if one.start == other.start {
-            self.is_earlier(one.block, other.block)
-        } else {
-            one.start < other.start
-        }
+        one.start < other.start
+            || (one.start == other.start && self.is_earlier(one.block, other.block))
     }
 
     // The first of what is at hand and one row more.
@@ -108,16 +103,16 @@ impl<'a, M: Machine, O: Priority> Bench<'a, M, O> {
         let mut best = (self.start_on(block, 0), 0);
         for processor in 1..self.machine.processors() {
             let start = self.start_on(block, processor);
-            best = sooner(best, start, processor);
+            best = sooner(best, (start, processor));
         }
         best
     }
 
     // Whether each message to a block comes from a block that has a row, for each block.
-    fn fed_blocks(&self) -> [bool; 257]
+    fn fed_blocks(&self) -> [bool; NUMBERS]
         ensures { (b : ℕ) → b ≤ 256 → slice_index_or result b false ≡ is_fed self.now.problem.now.messages.now (laid self.now.board) b }
     {
-        let mut fed = [true; 257];
+        let mut fed = [true; NUMBERS];
         for message in self.problem.messages {
             wait_for(message, &self.board.placed, &mut fed);
         }
@@ -139,7 +134,7 @@ impl<'a, M: Machine, O: Priority> Bench<'a, M, O> {
     }
 
     // The first of what is at hand and a block's row, if the block is a candidate.
-    fn with_block(&self, fed: &[bool; 257], best: Option<Row>, block: u32) -> Option<Row>
+    fn with_block(&self, fed: &[bool; NUMBERS], best: Option<Row>, block: u32) -> Option<Row>
         requires listed { In block self.now.problem.now.blocks.now }
         requires feeds { slice_index_or fed.now block false ≡ is_fed self.now.problem.now.messages.now (laid self.now.board) block }
         ensures { result ≡ (if is_candidate (seen self.now.problem.now) (laid self.now.board) block then first_of_two (earlier_in (O.Priority.meaning self.now.priority.now) self.now.problem.now) best (row_of (M.Machine.meaning self.now.machine.now) (seen self.now.problem.now) (laid self.now.board) block) else best) }

@@ -1,4 +1,4 @@
-use Rattle.std.proofs.Common.{◌≡◌, ℕ, ◌+◌, ◌<◌, ◌≤◌, max, length, get_or}
+use Rattle.std.proofs.Common.{◌≡◌, ℕ, ◌+◌, ◌<◌, ◌≤◌, max, get_or}
 use Rattle.schedule.proofs.problem.arrivals.Sender.arrive.Given as goal
 
 -- the processors so far have the later of the two, and the others what they had

@@ -1,5 +1,5 @@
 use Rattle.std.proofs.Common.{sym, ◌∙◌, subst}
-use Rattle.schedule.specs.Boards.{laid, count, Fitting}
+use Rattle.schedule.specs.Boards.{count, Fitting}
 use Rattle.schedule.specs.Seen.{seen, earlier_in}
 use Rattle.schedule.proofs.Boarding.{Shows}
 use Rattle.schedule.proofs.Choosing.{chosen_fits}

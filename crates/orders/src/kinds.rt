@@ -9,19 +9,19 @@ use schedule::priority::{Rank, Standing};
 
 // The greater level first. This and the next differ in one field alone, and one type for both would need a parameter to
 // name that field.
-#[derive(Clone, Copy, Drop)]
+#[derive(Clone, Copy, Debug, PartialEq, Eq, Drop)]
 pub struct ByLevel;
 
 // The greater block time first.
-#[derive(Clone, Copy, Drop)]
+#[derive(Clone, Copy, Debug, PartialEq, Eq, Drop)]
 pub struct ByTime;
 
 // All even, so that block numbers decide.
-#[derive(Clone, Copy, Drop)]
+#[derive(Clone, Copy, Debug, PartialEq, Eq, Drop)]
 pub struct ByNumber;
 
 // The first order, and the second where the first says even.
-#[derive(Clone, Copy, Drop)]
+#[derive(Clone, Copy, Debug, PartialEq, Eq, Drop)]
 pub struct Refined<A, B> {
     pub first: A,
     pub second: B,

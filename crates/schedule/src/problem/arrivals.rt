@@ -19,25 +19,16 @@ pub(crate) struct Sender<'a, M: Machine> {
 }
 
 impl<'a, M: Machine> Sender<'a, M> {
-    // How long data of a size that machines answer for is on its way to a processor.
-    fn delay(&self, to: u32, size: u32) -> u64
-        requires to { to < (M.meaning self.now.machine.now).processors }
-        requires small { size ≤ 1000000 }
-        ensures value { result ≡ (M.meaning self.now.machine.now).delay self.now.row.processor to size }
-        ensures near { result ≤ 1000000000 }
-    {
-        let from = self.row.processor as u32;
-        self.machine.delay(from, to, size).unwrap_or(0)
-    }
-
     // When data is on each processor, once what leaves at the row's finish has come too.
     fn arrive(&self, size: u32, on: &mut [u64; MAX_PROCESSORS])
         requires { size ≤ 1000000 }
         ensures { (p : ℕ) → p < (M.meaning self.now.machine.now).processors → slice_index on.new p ≡ max (slice_index on.old p) (self.now.row.finish + (M.meaning self.now.machine.now).delay self.now.row.processor p size) }
     {
+        let from = self.row.processor as u32;
         let processors = self.machine.processors() as usize;
         for (to, time) in on[..processors].iter_mut().enumerate() {
-            *time = (*time).max(self.row.finish + self.delay(to as u32, size));
+            let delay = self.machine.delay(from, to as u32, size).unwrap_or(0);
+            *time = (*time).max(self.row.finish + delay);
         }
     }
 

@@ -2,7 +2,7 @@
 ghost use Rattle.std.specs.Prelude.{◌≡◌, ℕ, ◌<◌, ◌≤◌, false, not, ◌&&◌, ◌||◌, if◌then◌else◌, ◌==◌, nat_lt, slice_index, slice_index_or};
 ghost use Rattle.chains.specs.Lists.{In};
 ghost use Rattle.schedule.specs.Boards.{laid};
-ghost use Rattle.schedule.specs.Placing.{is_fed, is_candidate, start_on, earliest, row_of, comes_before, first_of_two, chosen};
+ghost use Rattle.schedule.specs.Placing.{is_fed, start_on, earliest, row_of, comes_before, first_of_two, first_with, chosen};
 ghost use Rattle.schedule.specs.Seen.{seen, standing_in, earlier_in};
 
 use crate::limits::NUMBERS;
@@ -137,7 +137,7 @@ impl<'a, M: Machine, O: Priority> Bench<'a, M, O> {
     fn with_block(&self, fed: &[bool; NUMBERS], best: Option<Row>, block: u32) -> Option<Row>
         requires listed { In block self.now.problem.now.blocks.now }
         requires feeds { slice_index_or fed.now block false ≡ is_fed self.now.problem.now.messages.now (laid self.now.board) block }
-        ensures { result ≡ (if is_candidate (seen self.now.problem.now) (laid self.now.board) block then first_of_two (earlier_in (O.Priority.meaning self.now.priority.now) self.now.problem.now) best (row_of (M.Machine.meaning self.now.machine.now) (seen self.now.problem.now) (laid self.now.board) block) else best) }
+        ensures { result ≡ first_with (M.Machine.meaning self.now.machine.now) (seen self.now.problem.now) (earlier_in (O.Priority.meaning self.now.priority.now) self.now.problem.now) (laid self.now.board) best block }
     {
         if self.board.placed[block as usize] || !fed[block as usize] {
             return best;

@@ -1,20 +1,10 @@
-use Rattle.std.proofs.Common.{◌≡◌, List, length, ap, ◌∙◌, arith}
-use Rattle.schedule.specs.declared.rows.Row.{Row}
+use Rattle.std.proofs.Common.{◌≡◌, length, ap, ◌∙◌, arith}
 use Rattle.schedule.specs.Boards.{laid}
 use Rattle.schedule.specs.Placing.{placed}
 use Rattle.schedule.specs.Problems.{length_of}
 use Rattle.schedule.specs.Seen.{seen, earlier_in, placing_in}
 use Rattle.schedule.proofs.Choosing.{placed_more}
 use Rattle.schedule.proofs.problem.placing.fill.Goals as goal
-
-pub loop-init : goal.loop-init
-loop-init g c =
-    let e = c.new-bench.ensures in
-    (e.problem, e.machine, e.priority, e.rows, omega (arith, ap (λ (rs : List Row). length rs) e.rows))
-
-pub step-requires : goal.step-requires
-step-requires g c =
-    record { room = omega (arith, c.loop.invariant.4, c.loop-test.true, c.args.problem.now.small) }
 
 pub loop-preserved : goal.loop-preserved
 loop-preserved g c =

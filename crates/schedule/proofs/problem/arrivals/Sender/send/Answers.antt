@@ -1,9 +1,6 @@
-use Rattle.std.proofs.Common.{max, List, ap, ◌∙◌, arith}
-use Rattle.std.proofs.lemmas.List.{take_all}
-use Rattle.chains.specs.Lists.{greatest}
-use Rattle.chains.specs.declared.message.Message.{Message}
+use Rattle.std.proofs.Common.{arith}
 use Rattle.chains.proofs.Lists.{in_getD}
-use Rattle.schedule.specs.Boards.{arrived_at, sent}
+use Rattle.schedule.specs.Boards.{sent}
 use Rattle.schedule.proofs.Known.{to_low}
 use Rattle.schedule.proofs.Latest.{greatest_more}
 use Rattle.schedule.proofs.problem.arrivals.Sender.send.Goals as goal
@@ -21,10 +18,3 @@ loop-message-preserved g c =
     let one = c.receive.ensures b p lb lp in
     let more = greatest_more (sent M c.args.self.now.row b p) c.args.problem.now.messages.now c.loop-message.message-index (record { from = 0; to = 0; size = 0 }) c.loop-message-test.true in
     omega (arith, one, more, c.loop-message.invariant b p lb lp)
-
-pub returns : goal.returns
-returns g c =
-    let M = g.M.Machine.meaning c.args.self.now.machine.now in
-    λ b p lb lp.
-    c.loop-message.invariant b p lb lp
-    ∙ ap (λ (ms : List Message). max (arrived_at c.args.arrivals.now b p) (greatest (sent M c.args.self.now.row b p) ms)) (take_all _ _ c.loop-message-test.false)

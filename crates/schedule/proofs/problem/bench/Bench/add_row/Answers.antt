@@ -3,7 +3,8 @@ use Rattle.chains.specs.Lists.{greatest}
 use Rattle.schedule.specs.declared.board.Board.{Board}
 use Rattle.schedule.specs.Boards.{arrived_at, sent}
 use Rattle.schedule.specs.Seen.{seen}
-use Rattle.schedule.proofs.Boarding.{Shows, shows_more}
+use Rattle.schedule.proofs.Benches.{shown}
+use Rattle.schedule.proofs.Boarding.{shows_more}
 use Rattle.schedule.proofs.problem.bench.Bench.add_row.Goals as goal
 
 pub invariant_of-self : goal.invariant_of-self
@@ -22,7 +23,6 @@ invariant_of-self g c =
     let one : arrived_at new.arrivals b q ≡ F mid.arrivals b q = c.send.ensures b q lb lq in
     let two : F mid.arrivals b q ≡ F old.arrivals b q = ap (λ (t : List (List ℕ)). F t b q) e.arrivals in
     subst (λ k. arrived_at new.arrivals b q ≡ k) two one in
-    let had : Shows M (seen p) old = record { few = b.few; wide = b.wide; all = b.all; marks = b.marks; frees = b.frees; arrived = b.arrived; last = b.last; free_soon = b.free_soon; arrive_soon = b.arrive_soon } in
     let fits = c.requires.fits in
-    let s = shows_more M (g.met.M.Machine.lawful b.machine.now) (seen p) p.sized old new r had c.requires.room fits.0 fits.1 fits.2 e.rows e.placed e.free e.length ea in
+    let s = shows_more M (g.met.M.Machine.lawful b.machine.now) (seen p) p.sized old new r (shown b) c.requires.room fits.0 fits.1 fits.2 e.rows e.placed e.free e.length ea in
     record { few = s.few; wide = s.wide; all = s.all; marks = s.marks; frees = s.frees; arrived = s.arrived; last = s.last; free_soon = s.free_soon; arrive_soon = s.arrive_soon }

@@ -2,7 +2,7 @@ use Rattle.chains.proofs.Lists.{in_getD}
 use Rattle.schedule.specs.Boards.{laid}
 use Rattle.schedule.specs.Placing.{chosen}
 use Rattle.schedule.specs.Seen.{seen, earlier_in}
-use Rattle.schedule.proofs.Choosing.{among_more, among_all}
+use Rattle.schedule.proofs.Choosing.{among_more}
 use Rattle.schedule.proofs.problem.bench.Bench.choose.Goals as goal
 
 pub with_block-best-requires : goal.with_block-best-requires
@@ -20,12 +20,3 @@ loop-block-preserved g c =
     let rows = laid s.board in
     among_more M (seen p) e rows p.blocks.now c.loop-block.block-index c.loop-block-test.true c.loop-block.best c.with_block-best.result (chosen M (seen p) e rows)
     c.with_block-best.ensures c.loop-block.invariant
-
-pub returns : goal.returns
-returns g c =
-    let s = c.args.self.now in
-    let M = g.M.Machine.meaning s.machine.now in
-    let p = s.problem.now in
-    let e = earlier_in (g.O.Priority.meaning s.priority.now) p in
-    let rows = laid s.board in
-    among_all M (seen p) e rows p.blocks.now c.loop-block.block-index c.loop-block-test.false c.loop-block.best (chosen M (seen p) e rows) c.loop-block.invariant

@@ -1,9 +1,8 @@
-use Rattle.std.proofs.Common.{true, false, List, get_or, ap, ◌∙◌, arith}
-use Rattle.std.proofs.lemmas.List.{get_or-replicate, take_all}
+use Rattle.std.proofs.Common.{true, false, get_or, arith}
+use Rattle.std.proofs.lemmas.List.{get_or-replicate}
 use Rattle.chains.specs.declared.message.Message.{Message}
 use Rattle.chains.proofs.Lists.{in_getD}
 use Rattle.schedule.specs.Boards.{laid}
-use Rattle.schedule.specs.Placing.{is_fed}
 use Rattle.schedule.proofs.Choosing.{fed_more}
 use Rattle.schedule.proofs.Known.{from_low, to_low}
 use Rattle.schedule.proofs.problem.bench.Bench.fed_blocks.Goals as goal
@@ -28,7 +27,3 @@ loop-message-preserved g c =
     let at = in_getD ms i none c.loop-message-test.true in
     λ b lb.
     fed_more ms (laid s.board) b i none c.loop-message-test.true _ _ _ (s.marks m.from (from_low p m at)) (c.loop-message.invariant b lb) (c.wait_for.ensures b lb)
-
-pub returns : goal.returns
-returns g c = λ b lb.
-    c.loop-message.invariant b lb ∙ ap (λ (ms : List Message). is_fed ms (laid c.args.self.now.board) b) (take_all _ _ c.loop-message-test.false)

@@ -1,6 +1,6 @@
 use Rattle.std.proofs.Common.{ℕ, ap, arith}
 use Rattle.schedule.specs.Seen.{seen}
-use Rattle.schedule.proofs.Boarding.{Shows}
+use Rattle.schedule.proofs.Benches.{shown}
 use Rattle.schedule.proofs.Choosing.{earliest_known}
 use Rattle.schedule.proofs.problem.bench.Bench.row_of.Goals as goal
 
@@ -15,7 +15,6 @@ overflow_add-result g c =
     let b = c.args.self.now in
     let M = g.M.Machine.meaning b.machine.now in
     let p = b.problem.now in
-    let s : Shows M (seen p) b.board = record { few = b.few; wide = b.wide; all = b.all; marks = b.marks; frees = b.frees; arrived = b.arrived; last = b.last; free_soon = b.free_soon; arrive_soon = b.arrive_soon } in
-    let known = earliest_known M (seen p) b.board s (g.met.M.Machine.lawful b.machine.now).some c.args.block (p.numbered _ c.requires).1 in
+    let known = earliest_known M (seen p) b.board (shown b) (g.met.M.Machine.lawful b.machine.now).some c.args.block (p.numbered _ c.requires).1 in
     let start = ap (λ (x : ℕ × ℕ). x.0) c.earliest-start.ensures in
     omega (arith, b.few, p.brief _ c.requires, known.0, start)

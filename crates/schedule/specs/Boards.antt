@@ -1,6 +1,7 @@
 -- What placing keeps at hand beside the rows, and what it must be.
-use Rattle.std.specs.Prelude.{◌≡◌, ℕ, ◌+◌, ◌*◌, ◌<◌, ◌≤◌, false, cond, List, [], length, Some, None, Option, ◌==◌, slice_index, slice_index_or}
+use Rattle.std.specs.Prelude.{◌≡◌, ℕ, ◌+◌, ◌*◌, ◌<◌, ◌≤◌, max, false, cond, List, [], length, Some, None, Option, ◌==◌, slice_index, slice_index_or}
 use Rattle.chains.specs.declared.message.Message.{Message}
+use Rattle.chains.specs.Lists.{greatest}
 use Rattle.machine.specs.Model.{Model}
 use Rattle.schedule.specs.declared.board.Board.{Board}
 use Rattle.schedule.specs.declared.rows.Row.{Row}
@@ -22,6 +23,16 @@ arrived_at table b p = slice_index (slice_index_or table b []) p
 -- when the data that a row's block sends to b by this message is on p
 abbrev pub sent : Model → Row → ℕ → ℕ → Message → ℕ
 sent M r b p m = cond (m.to == b) (cond (r.block == m.from) (r.finish + M.delay r.processor p m.size) 0) 0
+
+-- the times before and after on each processor, once what leaves at a row's finish has come too
+abbrev pub Arrives : Model → Row → ℕ → List ℕ → List ℕ → Type 0
+Arrives M r size before after =
+    (p : ℕ) → p < M.processors → slice_index after p ≡ max (slice_index before p) (r.finish + M.delay r.processor p size)
+
+-- the tables before and after, once all that a row's block sends by these messages has come
+abbrev pub Receives : Model → Row → List Message → List (List ℕ) → List (List ℕ) → Type 0
+Receives M r ms before after =
+    (b p : ℕ) → b ≤ 256 → p < M.processors → arrived_at after b p ≡ max (arrived_at before b p) (greatest (sent M r b p) ms)
 
 -- so many rows finish by then: a row takes less than 2 to the power of 40, and waits for no delay above 1,000,000,000
 abbrev pub limit : ℕ → ℕ

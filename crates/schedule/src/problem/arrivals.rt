@@ -1,7 +1,6 @@
 // When data arrives on each processor.
-ghost use Rattle.std.specs.Prelude.{◌≡◌, ℕ, ◌+◌, ◌^◌, ◌<◌, ◌≤◌, max, slice_index};
-ghost use Rattle.chains.specs.Lists.{greatest};
-ghost use Rattle.schedule.specs.Boards.{arrived_at, sent};
+ghost use Rattle.std.specs.Prelude.{◌^◌, ◌<◌, ◌≤◌, [], ◌∷◌};
+ghost use Rattle.schedule.specs.Boards.{Arrives, Receives};
 
 use crate::limits::{MAX_PROCESSORS, NUMBERS};
 use crate::problem::Problem;
@@ -22,7 +21,7 @@ impl<'a, M: Machine> Sender<'a, M> {
     // When data is on each processor, once what leaves at the row's finish has come too.
     fn arrive(&self, size: u32, on: &mut [u64; MAX_PROCESSORS])
         requires { size ≤ 1000000 }
-        ensures { (p : ℕ) → p < (M.meaning self.now.machine.now).processors → slice_index on.new p ≡ max (slice_index on.old p) (self.now.row.finish + (M.meaning self.now.machine.now).delay self.now.row.processor p size) }
+        ensures { Arrives (M.meaning self.now.machine.now) self.now.row size on.old on.new }
     {
         let from = self.row.processor as u32;
         let processors = self.machine.processors() as usize;
@@ -36,7 +35,7 @@ impl<'a, M: Machine> Sender<'a, M> {
     fn receive(&self, message: &Message, arrivals: &mut [[u64; MAX_PROCESSORS]; NUMBERS])
         requires small { message.now.size ≤ 1000000 }
         requires known { message.now.to ≤ 256 }
-        ensures { (b p : ℕ) → b ≤ 256 → p < (M.meaning self.now.machine.now).processors → arrived_at arrivals.new b p ≡ max (arrived_at arrivals.old b p) (sent (M.meaning self.now.machine.now) self.now.row b p message.now) }
+        ensures { Receives (M.meaning self.now.machine.now) self.now.row (message.now ∷ []) arrivals.old arrivals.new }
     {
         if u64::from(message.from) == self.row.block {
             self.arrive(message.size, &mut arrivals[message.to as usize]);
@@ -45,7 +44,7 @@ impl<'a, M: Machine> Sender<'a, M> {
 
     // The table of arrivals once all that the row's block sends has come.
     pub(crate) fn send(&self, problem: &Problem, arrivals: &mut [[u64; MAX_PROCESSORS]; NUMBERS])
-        ensures { (b p : ℕ) → b ≤ 256 → p < (M.meaning self.now.machine.now).processors → arrived_at arrivals.new b p ≡ max (arrived_at arrivals.old b p) (greatest (sent (M.meaning self.now.machine.now) self.now.row b p) problem.now.messages.now) }
+        ensures { Receives (M.meaning self.now.machine.now) self.now.row problem.now.messages.now arrivals.old arrivals.new }
     {
         for message in problem.messages {
             self.receive(message, arrivals);

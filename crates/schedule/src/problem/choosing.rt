@@ -2,8 +2,8 @@
 ghost use Rattle.std.specs.Prelude.{◌≡◌, ℕ, ◌<◌, ◌≤◌, false, not, ◌&&◌, ◌||◌, if◌then◌else◌, ◌==◌, nat_lt, slice_index, slice_index_or};
 ghost use Rattle.chains.specs.Lists.{In};
 ghost use Rattle.schedule.specs.Boards.{laid};
-ghost use Rattle.schedule.specs.Placing.{is_fed, start_on, earliest, row_of, comes_before, first_of_two, first_with, chosen};
-ghost use Rattle.schedule.specs.Seen.{seen, standing_in, earlier_in};
+ghost use Rattle.schedule.specs.Placing.{is_fed, start_on, earliest, row_of, comes_before, first_of_two};
+ghost use Rattle.schedule.specs.Seen.{seen, standing_in, earlier_in, first_in, chosen_in};
 
 use crate::limits::NUMBERS;
 use crate::order::{Priority, is_earlier};
@@ -57,11 +57,10 @@ impl<'a, M: Machine, O: Priority> Bench<'a, M, O> {
     fn is_earlier(&self, one: u64, other: u64) -> bool
         ensures { result ≡ earlier_in (O.Priority.meaning self.now.priority.now) self.now.problem.now one other }
     {
-        let problem = self.problem;
         is_earlier(
             self.priority,
-            problem.standing(one),
-            problem.standing(other),
+            self.problem.standing(one),
+            self.problem.standing(other),
             one,
             other,
         )
@@ -95,7 +94,8 @@ impl<'a, M: Machine, O: Priority> Bench<'a, M, O> {
         free.max(self.board.arrivals[block as usize][processor as usize])
     }
 
-    // The earliest start of a block, and the lowest processor that has it.
+    // The earliest start of a block, and the lowest processor that has it. A chain over the processors would call a closure
+    // that may start a block on those that exist alone, and a range does not say that it gives no other.
     fn earliest(&self, block: u32) -> (u64, u32)
         requires { block ≤ 256 }
         ensures { result ≡ earliest (M.Machine.meaning self.now.machine.now) (seen self.now.problem.now) (laid self.now.board) block }
@@ -137,7 +137,7 @@ impl<'a, M: Machine, O: Priority> Bench<'a, M, O> {
     fn with_block(&self, fed: &[bool; NUMBERS], best: Option<Row>, block: u32) -> Option<Row>
         requires listed { In block self.now.problem.now.blocks.now }
         requires feeds { slice_index_or fed.now block false ≡ is_fed self.now.problem.now.messages.now (laid self.now.board) block }
-        ensures { result ≡ first_with (M.Machine.meaning self.now.machine.now) (seen self.now.problem.now) (earlier_in (O.Priority.meaning self.now.priority.now) self.now.problem.now) (laid self.now.board) best block }
+        ensures { result ≡ first_in (M.Machine.meaning self.now.machine.now) self.now.problem.now (O.Priority.meaning self.now.priority.now) (laid self.now.board) best block }
     {
         if self.board.placed[block as usize] || !fed[block as usize] {
             return best;
@@ -147,7 +147,7 @@ impl<'a, M: Machine, O: Priority> Bench<'a, M, O> {
 
     // The row that comes next, where there is a candidate.
     pub(crate) fn choose(&self) -> Option<Row>
-        ensures { result ≡ chosen (M.Machine.meaning self.now.machine.now) (seen self.now.problem.now) (earlier_in (O.Priority.meaning self.now.priority.now) self.now.problem.now) (laid self.now.board) }
+        ensures { result ≡ chosen_in (M.Machine.meaning self.now.machine.now) self.now.problem.now (O.Priority.meaning self.now.priority.now) (laid self.now.board) }
     {
         let fed = self.fed_blocks();
         let mut best = None;

@@ -1,4 +1,4 @@
-use Rattle.std.proofs.Common.{◌≡◌, ◌-◌, ap, ◌∙◌, arith}
+use Rattle.std.proofs.Common.{◌≡◌, ◌-◌, ap, arith}
 use Rattle.schedule.specs.Boards.{laid}
 use Rattle.schedule.specs.Placing.{earliest_upto}
 use Rattle.schedule.specs.Seen.{seen}
@@ -15,9 +15,8 @@ loop-processor-preserved g c =
 pub returns : goal.returns
 returns g c =
     let b = c.args.self.now in
-    let M = g.M.Machine.meaning b.machine.now in
     let law = g.met.M.Machine.lawful b.machine.now in
-    let p = seen b.problem.now in
-    let rows = laid b.board in
+    let M = g.M.Machine.meaning b.machine.now in
     let end : c.loop-processor.processor - 1 ≡ M.processors - 1 = omega (arith, c.loop-processor-test.false, c.loop-processor.auto.processor, c.loop-processor.auto.processor-end, law.some, c.processors-processor-end.ensures) in
-    c.loop-processor.invariant ∙ ap (earliest_upto M p rows c.args.block) end
+    let all = ap (earliest_upto M (seen b.problem.now) (laid b.board) c.args.block) end in
+    cc

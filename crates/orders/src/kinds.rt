@@ -7,20 +7,21 @@ ghost use Rattle.std.proofs.Common.{rules};
 use schedule::order::Priority;
 use schedule::priority::{Rank, Standing};
 
-// The greater level first.
-#[derive(Clone, Copy, Drop)]
+// The greater level first. This and the next differ in one field alone, and one type for both would need a parameter to
+// name that field.
+#[derive(Clone, Copy, Debug, PartialEq, Eq, Drop)]
 pub struct ByLevel;
 
 // The greater block time first.
-#[derive(Clone, Copy, Drop)]
+#[derive(Clone, Copy, Debug, PartialEq, Eq, Drop)]
 pub struct ByTime;
 
 // All even, so that block numbers decide.
-#[derive(Clone, Copy, Drop)]
+#[derive(Clone, Copy, Debug, PartialEq, Eq, Drop)]
 pub struct ByNumber;
 
 // The first order, and the second where the first says even.
-#[derive(Clone, Copy, Drop)]
+#[derive(Clone, Copy, Debug, PartialEq, Eq, Drop)]
 pub struct Refined<A, B> {
     pub first: A,
     pub second: B,
@@ -30,13 +31,7 @@ pub struct Refined<A, B> {
 fn greater_ahead(one: u64, other: u64) -> Rank
     ensures { result ≡ greater_first one other }
 {
-    if one > other {
-        Rank::Ahead
-    } else if one < other {
-        Rank::Behind
-    } else {
-        Rank::Even
-    }
+    Rank::from(other.cmp(&one))
 }
 
 impl Priority for ByLevel {

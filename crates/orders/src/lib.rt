@@ -1,5 +1,6 @@
 // The orders of blocks that there are: by level, by time, by number, one refined by another, and either of two.
 #![tactic(auto)]
 
-pub mod either;
 pub mod kinds;
+
+pub use either::Either;

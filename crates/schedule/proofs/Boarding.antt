@@ -1,6 +1,6 @@
--- A board with one row more.
-use Rattle.std.proofs.Common.{◌≡◌, ℕ, ◌+◌, ◌<◌, ◌≤◌, max, Bool, true, false, cond, ◌||◌, eqb, List, [], ◌∷◌, ◌++◌, length, get_or, take, set, replicate, sym, refl, ap, ◌∙◌, subst, inl, inr, ⊎_elim, arith}
-use Rattle.std.proofs.lemmas.List.{length-set, length-replicate, get_or-replicate, take_more_set, get_or-set_same, get_or-set_other}
+-- A board with one row more, and the board without rows.
+use Rattle.std.proofs.Common.{◌≡◌, ℕ, ◌+◌, ◌<◌, ◌≤◌, max, Bool, true, false, cond, ◌||◌, eqb, List, [], ◌∷◌, ◌++◌, length, get_or, set, replicate, sym, refl, ap, ◌∙◌, subst, inl, inr, ⊎_elim, arith}
+use Rattle.std.proofs.lemmas.List.{length-set, length-replicate, length_push, get_or-replicate, get_or-set_same, get_or-set_other}
 use Rattle.std.proofs.lemmas.Bool.{cases_eq, eq-eqb, ne_eqb, cond-true, cond-false, or_right}
 use Rattle.chains.specs.declared.message.Message.{Message}
 use Rattle.chains.specs.Lists.{In, greatest}
@@ -10,8 +10,20 @@ use Rattle.schedule.specs.declared.board.Board.{Board}
 use Rattle.schedule.specs.declared.rows.Row.{Row}
 use Rattle.schedule.specs.Problems.{Problem, length_of}
 use Rattle.schedule.specs.Placing.{is_placed, free, arrival, data_at}
-use Rattle.schedule.specs.Boards.{laid, arrived_at, sent, limit, Shows}
+use Rattle.schedule.specs.Boards.{laid, count, arrived_at, sent, limit, Marks, Frees, Arrivals, FreeSoon, ArriveSoon}
 use Rattle.schedule.proofs.Latest.{greatest_push}
+
+-- all that a board has at hand is so
+pub record Shows (M : Model) (g : Problem) (board : Board) : Type 0 where
+  pub few : count board ≤ 256
+  pub wide : length board.placed ≡ 257
+  pub all : length board.free ≡ 32
+  pub marks : Marks board
+  pub frees : Frees M board
+  pub arrived : Arrivals M g board
+  pub last : board.length ≡ length_of (laid board)
+  pub free_soon : FreeSoon M board
+  pub arrive_soon : ArriveSoon M board
 
 -- a block has a row above, or it is the block of the last row
 placed_push : (rows : List Row) (r : Row) (b : ℕ) → is_placed (rows ++ r ∷ []) b ≡ (is_placed rows b || eqb r.block b)
@@ -53,13 +65,12 @@ sent_le M law r b p lr lp (m ∷ ms) h =
 
 module _ (M : Model) (law : Lawful M) (g : Problem) (sized : (m : Message) → In m g.messages → m.size ≤ 1000000)
     (old new : Board) (r : Row) (s : Shows M g old)
-    (room : old.count < 256) (low : r.block ≤ 256) (known : r.processor < M.processors) (soon : r.finish ≤ limit (old.count + 1))
-    (er : new.rows ≡ set old.rows old.count r) (ec : new.count ≡ old.count + 1) (ep : new.placed ≡ set old.placed r.block true)
+    (room : count old < 256) (low : r.block ≤ 256) (known : r.processor < M.processors) (soon : r.finish ≤ limit (count old + 1))
+    (er : laid new ≡ laid old ++ r ∷ []) (ep : new.placed ≡ set old.placed r.block true)
     (ef : new.free ≡ set old.free r.processor (max (get_or old.free r.processor 0) r.finish)) (el : new.length ≡ max old.length r.finish)
     (ea : (b p : ℕ) → b ≤ 256 → p < M.processors → arrived_at new.arrivals b p ≡ max (arrived_at old.arrivals b p) (greatest (sent M r b p) g.messages)) where
-  pub laid_more : laid new ≡ laid old ++ r ∷ []
-  laid_more =
-      ap (λ k. take k new.rows) ec ∙ ap (λ (rs : List Row). take (old.count + 1) rs) er ∙ take_more_set old.rows old.count r (omega (arith, s.long, room))
+  one_more : count new ≡ count old + 1
+  one_more = ap (λ (rs : List Row). length rs) er ∙ length_push (laid old) r
 
   mark : (b : ℕ) → b ≤ 256 → get_or new.placed b false ≡ is_placed (laid new) b
   mark b lb =
@@ -72,7 +83,7 @@ module _ (M : Model) (law : Lawful M) (g : Problem) (sized : (m : Message) → I
       let P : Bool → Type 0 = λ v. is_placed (laid old) b ≡ (is_placed (laid old) b || v) in
       subst P (sym no) (elim (is_placed (laid old) b) as (λ v. v ≡ (v || false)) [ true ↦ refl | false ↦ refl ])))
       (cases_eq r.block b)
-      ∙ sym (placed_push (laid old) r b) ∙ ap (λ (rs : List Row). is_placed rs b) (sym laid_more)
+      ∙ sym (placed_push (laid old) r b) ∙ ap (λ (rs : List Row). is_placed rs b) (sym er)
 
   freed : (p : ℕ) → p < M.processors → get_or new.free p 0 ≡ max (get_or old.free p 0) (cond (eqb r.processor p) r.finish 0)
   freed p lp =
@@ -92,27 +103,26 @@ module _ (M : Model) (law : Lawful M) (g : Problem) (sized : (m : Message) → I
 
   pub shows_more : Shows M g new
   shows_more = record {
-    long = ap (λ (t : List Row). length t) er ∙ length-set old.rows old.count r ∙ s.long;
+    few = omega (arith, one_more, room);
     wide = ap (λ (t : List Bool). length t) ep ∙ length-set old.placed r.block true ∙ s.wide;
     all = ap (λ (t : List ℕ). length t) ef ∙ length-set old.free r.processor (max (get_or old.free r.processor 0) r.finish) ∙ s.all;
-    few = omega (arith, ec, room);
     marks = mark;
     frees = λ p lp.
         let a = freed p lp in
         let b = greatest_push (λ (y : Row). cond (eqb y.processor p) y.finish 0) (laid old) r in
-        let d = ap (λ (rs : List Row). free rs p) laid_more in
+        let d = ap (λ (rs : List Row). free rs p) er in
         omega (arith, a, b, d, s.frees p lp);
     arrived = λ b p lb lp.
-        let d = ap (λ (rs : List Row). data_at M g.messages rs b p) laid_more in
+        let d = ap (λ (rs : List Row). data_at M g.messages rs b p) er in
         omega (arith, ea b p lb lp, s.arrived b p lb lp, data_push M g.messages (laid old) r b p, d);
     last =
-        let d = ap length_of laid_more in
+        let d = ap length_of er in
         let e = greatest_push (λ (y : Row). y.finish) (laid old) r in
         omega (arith, el, s.last, d, e);
-    soon = λ p lp.
-        let f = cond_le (eqb r.processor p) r.finish (limit (old.count + 1)) soon in
-        omega (arith, freed p lp, s.soon p lp, f, ec);
-    near = λ b p lb lp. omega (arith, ea b p lb lp, s.near b p lb lp, sent_le M law r b p known lp g.messages sized, soon, ec);
+    free_soon = λ p lp.
+        let f = cond_le (eqb r.processor p) r.finish (limit (count old + 1)) soon in
+        omega (arith, freed p lp, s.free_soon p lp, f, one_more);
+    arrive_soon = λ b p lb lp. omega (arith, ea b p lb lp, s.arrive_soon b p lb lp, sent_le M law r b p known lp g.messages sized, soon, one_more);
   }
 
 none_sent : (M : Model) (ms : List Message) (b p : ℕ) → data_at M ms [] b p ≡ 0
@@ -121,29 +131,20 @@ none_sent M (m ∷ ms) b p =
     omega (arith, cond_le (eqb m.to b) 0 0 (omega arith), none_sent M ms b p)
 
 -- the board without rows
-abbrev pub empty : Board
-empty = record {
-  rows = replicate 256 (record { block = 0; processor = 0; start = 0; finish = 0 });
-  count = 0;
-  placed = replicate 257 false;
-  free = replicate 32 0;
-  arrivals = replicate 257 (replicate 32 0);
-  length = 0;
-}
-
-pub empty_shows : (M : Model) (g : Problem) → M.processors ≤ 32 → Shows M g empty
-empty_shows M g few =
-    let at : (b p : ℕ) → b ≤ 256 → arrived_at empty.arrivals b p ≡ 0 =
-    λ b p lb. ap (λ (t : List ℕ). get_or t p 0) (get_or-replicate 257 b (replicate 32 0) [] (omega (arith, lb))) ∙ all_same {A = ℕ} 0 32 p in
+pub empty_shows : (M : Model) (g : Problem) → M.processors ≤ 32 → (board : Board) → laid board ≡ [] → board.placed ≡ replicate 257 false → board.free ≡ replicate 32 0
+    → board.arrivals ≡ replicate 257 (replicate 32 0) → board.length ≡ 0 → Shows M g board
+empty_shows M g few board er ep ef ea el =
+    let at : (b p : ℕ) → b ≤ 256 → arrived_at board.arrivals b p ≡ 0 =
+    λ b p lb. ap (λ (t : List (List ℕ)). arrived_at t b p) ea ∙ ap (λ (t : List ℕ). get_or t p 0) (get_or-replicate 257 b (replicate 32 0) [] (omega (arith, lb))) ∙ all_same {A = ℕ} 0 32 p in
+    let now : (p : ℕ) → get_or board.free p 0 ≡ 0 = λ p. ap (λ (t : List ℕ). get_or t p 0) ef ∙ all_same {A = ℕ} 0 32 p in
     record {
-      long = length-replicate {A = Row} 256 (record { block = 0; processor = 0; start = 0; finish = 0 });
-      wide = length-replicate {A = Bool} 257 false;
-      all = length-replicate {A = ℕ} 32 0;
-      few = omega arith;
-      marks = λ b lb. all_same false 257 b;
-      frees = λ p lp. all_same {A = ℕ} 0 32 p;
-      arrived = λ b p lb lp. at b p lb ∙ sym (none_sent M g.messages b p);
-      last = refl;
-      soon = λ p lp. omega (arith, all_same {A = ℕ} 0 32 p);
-      near = λ b p lb lp. omega (arith, at b p lb);
+      few = omega (arith, ap (λ (rs : List Row). length rs) er);
+      wide = ap (λ (t : List Bool). length t) ep ∙ length-replicate {A = Bool} 257 false;
+      all = ap (λ (t : List ℕ). length t) ef ∙ length-replicate {A = ℕ} 32 0;
+      marks = λ b lb. ap (λ (t : List Bool). get_or t b false) ep ∙ all_same false 257 b ∙ sym (ap (λ (rs : List Row). is_placed rs b) er);
+      frees = λ p lp. now p ∙ sym (ap (λ (rs : List Row). free rs p) er);
+      arrived = λ b p lb lp. at b p lb ∙ sym (none_sent M g.messages b p) ∙ sym (ap (λ (rs : List Row). data_at M g.messages rs b p) er);
+      last = el ∙ sym (ap length_of er);
+      free_soon = λ p lp. omega (arith, now p);
+      arrive_soon = λ b p lb lp. omega (arith, at b p lb);
     }

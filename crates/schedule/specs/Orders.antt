@@ -1,5 +1,7 @@
 -- Orders of blocks by level and block time: what they say, their laws, and the kinds of order that there are.
 use Rattle.std.specs.Prelude.{◌≡◌, ℕ, Bool, true, false, cond, ◌&&◌, ◌||◌, nat_lt}
+use Rattle.std.specs.declared.cmp.Ordering.{Ordering}
+use Rattle.std.specs.declared.cmp.Ordering.TheVariants.{Less, Equal, Greater}
 use Rattle.schedule.specs.declared.priority.Standing.{Standing}
 use Rattle.schedule.specs.declared.priority.Rank.{Rank}
 use Rattle.schedule.specs.declared.priority.Rank.TheVariants.{Ahead, Even, Behind}
@@ -13,6 +15,12 @@ abbrev pub number_of : Rank → ℕ
 number_of Ahead = 0
 number_of Even = 1
 number_of Behind = 2
+
+-- what comes first of two is ahead
+abbrev pub rank_of : Ordering → Rank
+rank_of Less = Ahead
+rank_of Equal = Even
+rank_of Greater = Behind
 
 abbrev pub is_ahead : Rank → Bool
 is_ahead Ahead = true

@@ -63,11 +63,15 @@ abbrev pub first_of_two : (ℕ → ℕ → Bool) → Option Row → Row → Opti
 first_of_two earlier None y = Some y
 first_of_two earlier (Some x) y = cond (comes_before earlier y x) (Some y) (Some x)
 
+-- the first of what is at hand and a block's row, if the block is a candidate
+abbrev pub first_with : Model → Problem → (ℕ → ℕ → Bool) → List Row → Option Row → ℕ → Option Row
+first_with M g earlier rows best b = cond (is_candidate g rows b) (first_of_two earlier best (row_of M g rows b)) best
+
 -- the first of what is at hand and the rows of the candidates among these blocks
 abbrev pub first_among : Model → Problem → (ℕ → ℕ → Bool) → List Row → Option Row → List ℕ → Option Row
 first_among M g earlier rows best [] = best
 first_among M g earlier rows best (b ∷ bs) =
-    first_among M g earlier rows (cond (is_candidate g rows b) (first_of_two earlier best (row_of M g rows b)) best) bs
+    first_among M g earlier rows (first_with M g earlier rows best b) bs
 
 -- the row that a step adds, where there is a candidate
 abbrev pub chosen : Model → Problem → (ℕ → ℕ → Bool) → List Row → Option Row

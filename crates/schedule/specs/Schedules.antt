@@ -1,7 +1,7 @@
 -- The rows that a schedule holds.
-use Rattle.std.specs.Prelude.{List, take}
+use Rattle.std.specs.Prelude.{List}
 use Rattle.schedule.specs.declared.rows.Row.{Row}
 use Rattle.schedule.specs.declared.schedule.Schedule.{Schedule}
 
 abbrev pub rows_in : Schedule → List Row
-rows_in s = take s.count s.rows
+rows_in s = s.rows.items

@@ -3,6 +3,8 @@
 
 mod board;
 pub mod examples;
+pub mod limits;
+mod one_of_two;
 pub mod order;
 pub mod priority;
 pub mod problem;

@@ -1,9 +1,10 @@
 // What code over any order of blocks may ask of it.
 ghost use Rattle.std.specs.Prelude.{◌≡◌, ℕ};
-ghost use Rattle.schedule.specs.Orders.{Order, Lawful, number_of, earlier};
+ghost use Rattle.schedule.specs.Orders.{Order, Lawful, number_of, rank_of, earlier};
 ghost use Rattle.schedule.specs.declared.priority.Standing.{Standing as Known};
 
 use crate::priority::{Rank, Standing};
+use std::cmp::Ordering;
 
 pub trait Priority {
     // What the order means: every answer is a function of it, so the same question has the same answer each time.
@@ -26,6 +27,19 @@ impl Rank {
             Rank::Ahead => 0,
             Rank::Even => 1,
             Rank::Behind => 2,
+        }
+    }
+}
+
+impl From<Ordering> for Rank {
+    ghost from_gives = { λ order rank. rank ≡ rank_of order };
+
+    // What comes first of two is ahead.
+    fn from(order: Ordering) -> Self {
+        match order {
+            Ordering::Less => Rank::Ahead,
+            Ordering::Equal => Rank::Even,
+            Ordering::Greater => Rank::Behind,
         }
     }
 }

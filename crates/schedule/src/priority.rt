@@ -7,7 +7,8 @@ pub struct Standing {
     pub time: u64,
 }
 
-// What an order says of one block beside another.
+// What an order says of one block beside another. The rules give each case its number and its meaning, so this stands
+// beside the library's Ordering, which turns into it.
 #[derive(Clone, Copy, PartialEq, Eq, Debug)]
 pub enum Rank {
     Ahead,

@@ -4,9 +4,11 @@ ghost use Rattle.chains.specs.Chains.{Blocks, Once, Forward, place};
 ghost use Rattle.chains.specs.Lists.{In};
 ghost use Rattle.chains.specs.declared.message.Message.{Message as Sent};
 
+use crate::limits::NUMBERS;
 use chains::message::Message;
 
 mod arrivals;
+mod bench;
 mod boards;
 mod choosing;
 pub mod placing;
@@ -18,8 +20,8 @@ pub mod placing;
 pub struct Problem<'a> {
     pub blocks: &'a [u32],
     pub order: &'a [u32],
-    pub times: &'a [u64; 257],
-    pub levels: &'a [u64; 257],
+    pub times: &'a [u64; NUMBERS],
+    pub levels: &'a [u64; NUMBERS],
     pub messages: &'a [Message],
     ghost small: { length blocks.now ≤ 256 },
     ghost numbered: { Blocks blocks.now },

@@ -1,15 +1,13 @@
-// A schedule as placing makes it.
-ghost use Rattle.std.specs.Prelude.{◌≤◌};
-
+// A schedule as placing makes it. This file has no clause, so that the specs may name its type.
+use crate::limits::MAX_BLOCKS;
 use crate::rows::Row;
+use arrayvec::ArrayVec;
 
 pub mod reading;
 
-// The rows in the first places of a table, and the greatest finish.
-#[derive(Clone, Copy)]
+// The rows in the order in which they were placed, and the greatest finish.
+#[derive(Debug, PartialEq, Eq, Drop)]
 pub struct Schedule {
-    pub rows: [Row; 256],
-    pub count: usize,
+    pub rows: ArrayVec<Row, MAX_BLOCKS>,
     pub length: u64,
-    ghost few: { count ≤ 256 },
 }

@@ -1,133 +1,36 @@
 // Which row comes next.
-ghost use Rattle.std.specs.Prelude.{◌≡◌, ℕ, ◌+◌, ◌^◌, ◌<◌, ◌≤◌, false, not, ◌&&◌, ◌||◌, if◌then◌else◌, ◌==◌, nat_lt, slice_index, slice_index_or};
-ghost use Rattle.schedule.specs.Boards.{laid, limit, Fitting, Shows};
-ghost use Rattle.schedule.specs.Orders.{earlier};
-ghost use Rattle.schedule.specs.Placing.{is_placed, is_fed, is_candidate, start_on, earliest, row_of, comes_before, first_of_two, chosen};
-ghost use Rattle.schedule.specs.Seen.{seen, standing_in};
+ghost use Rattle.std.specs.Prelude.{◌≡◌, ℕ, ◌<◌, ◌≤◌, false, not, ◌&&◌, ◌||◌, if◌then◌else◌, ◌==◌, nat_lt, slice_index, slice_index_or};
+ghost use Rattle.chains.specs.Lists.{In};
+ghost use Rattle.schedule.specs.Boards.{laid};
+ghost use Rattle.schedule.specs.Placing.{is_fed, start_on, earliest, row_of, comes_before, first_of_two};
+ghost use Rattle.schedule.specs.Seen.{seen, standing_in, earlier_in, first_in, chosen_in};
 
-use crate::board::Board;
+use crate::limits::NUMBERS;
 use crate::order::{Priority, is_earlier};
 use crate::priority::Standing;
 use crate::problem::Problem;
+use crate::problem::bench::Bench;
 use crate::rows::Row;
 use chains::message::Message;
 use machine::Machine;
 
 // The entry of a block in a table, 0 past its end.
-fn entry(table: &[u64; 257], block: u64) -> u64
+fn entry(table: &[u64; NUMBERS], block: u64) -> u64
     ensures { result ≡ slice_index table.now block }
 {
-    if block < 257 {
-        table[block as usize]
-    } else {
-        0
-    }
+    table.get(block as usize).copied().unwrap_or(0)
 }
 
-// The level and the time of a block.
-fn standing_of(problem: &Problem, block: u64) -> Standing
-    ensures { result ≡ standing_in problem.now block }
+// What is sooner: the best start so far, with its processor, or the next; the best so far where they are equal. The
+// library's min_by_key says no more than the test, and takes a closure and a proof by hand.
+fn sooner(best: (u64, u32), next: (u64, u32)) -> (u64, u32)
+    ensures { result ≡ (if nat_lt next.0 best.0 then next else best) }
 {
-    Standing {
-        level: entry(problem.levels, block),
-        time: entry(problem.times, block),
-    }
-}
-
-// Whether one block is earlier in the order than another.
-fn is_earlier_block<O: Priority>(problem: &Problem, priority: &O, one: u64, other: u64) -> bool
-    ensures { result ≡ earlier (O.meaning priority.now) (standing_in problem.now) one other }
-{
-    is_earlier(
-        priority,
-        standing_of(problem, one),
-        standing_of(problem, other),
-        one,
-        other,
-    )
-}
-
-// Whether one row comes before another: it starts sooner, or at the same time and its block is earlier in the order.
-fn comes_before<O: Priority>(problem: &Problem, priority: &O, one: &Row, other: &Row) -> bool
-    ensures { result ≡ comes_before (earlier (O.meaning priority.now) (standing_in problem.now)) one.now other.now }
-{
-    if one.start == other.start {
-        is_earlier_block(problem, priority, one.block, other.block)
-    } else {
-        one.start < other.start
-    }
-}
-
-// The first of what is at hand and one row more.
-fn first_of_two<O: Priority>(
-    problem: &Problem,
-    priority: &O,
-    best: Option<Row>,
-    row: Row,
-) -> Option<Row>
-    ensures { result ≡ first_of_two (earlier (O.meaning priority.now) (standing_in problem.now)) best row }
-{
-    match best {
-        None => Some(row),
-        Some(other) => {
-            if comes_before(problem, priority, &row, &other) {
-                Some(row)
-            } else {
-                Some(other)
-            }
-        }
-    }
-}
-
-// When a block can start on a processor.
-fn start_on<M: Machine>(
-    problem: &Problem,
-    machine: &M,
-    board: &Board,
-    block: u32,
-    processor: u32,
-) -> u64
-    requires shows { Shows (M.meaning machine.now) (seen problem.now) board.now }
-    requires few { (M.meaning machine.now).processors ≤ 32 }
-    requires known { block ≤ 256 }
-    requires exists { processor < (M.meaning machine.now).processors }
-    ensures { result ≡ start_on (M.meaning machine.now) (seen problem.now) (laid board.now) block processor }
-{
-    let free = board.free[processor as usize];
-    free.max(board.arrivals[block as usize][processor as usize])
-}
-
-// What is sooner: the best so far, or a start on one processor more.
-fn sooner(best: (u64, u32), start: u64, processor: u32) -> (u64, u32)
-    ensures { result ≡ (if nat_lt start best.0 then (start, processor) else best) }
-{
-    if start < best.0 {
-        (start, processor)
-    } else {
-        best
-    }
-}
-
-// The earliest start of a block, and the lowest processor that has it.
-fn earliest<M: Machine>(problem: &Problem, machine: &M, board: &Board, block: u32) -> (u64, u32)
-    requires shows { Shows (M.meaning machine.now) (seen problem.now) board.now }
-    requires some { 1 ≤ (M.meaning machine.now).processors }
-    requires few { (M.meaning machine.now).processors ≤ 32 }
-    requires known { block ≤ 256 }
-    ensures value { result ≡ earliest (M.meaning machine.now) (seen problem.now) (laid board.now) block }
-    ensures soon { result.0 ≤ limit board.now.count + 1000000000 }
-    ensures exists { result.1 < (M.meaning machine.now).processors }
-{
-    let mut best = (start_on(problem, machine, board, block, 0), 0);
-    for processor in 1..machine.processors() {
-        let start = start_on(problem, machine, board, block, processor);
-        best = sooner(best, start, processor);
-    }
-    best
+    if next.0 < best.0 { next } else { best }
 }
 
 // A block stays fed if this message does not come to it from a block without a row.
-fn wait_for(message: &Message, placed: &[bool; 257], fed: &mut [bool; 257])
+fn wait_for(message: &Message, placed: &[bool; NUMBERS], fed: &mut [bool; NUMBERS])
     requires from { message.now.from ≤ 256 }
     requires to { message.now.to ≤ 256 }
     ensures { (b : ℕ) → b ≤ 256 → slice_index_or fed.new b false ≡ ((not (message.now.to == b) || slice_index_or placed.now message.now.from false) && slice_index_or fed.old b false) }
@@ -137,80 +40,120 @@ fn wait_for(message: &Message, placed: &[bool; 257], fed: &mut [bool; 257])
     }
 }
 
-// Whether each message to a block comes from a block that has a row, for each block.
-fn fed_blocks(problem: &Problem, board: &Board) -> [bool; 257]
-    requires marks { (b : ℕ) → b ≤ 256 → slice_index_or board.now.placed b false ≡ is_placed (laid board.now) b }
-    ensures { (b : ℕ) → b ≤ 256 → slice_index_or result b false ≡ is_fed problem.now.messages.now (laid board.now) b }
-{
-    let mut fed = [true; 257];
-    for message in problem.messages {
-        wait_for(message, &board.placed, &mut fed);
-    }
-    fed
-}
-
-// The row of a block at its earliest start.
-fn row_of<M: Machine>(problem: &Problem, machine: &M, board: &Board, block: u32) -> Row
-    requires shows { Shows (M.meaning machine.now) (seen problem.now) board.now }
-    requires some { 1 ≤ (M.meaning machine.now).processors }
-    requires few { (M.meaning machine.now).processors ≤ 32 }
-    requires known { block ≤ 256 }
-    requires brief { slice_index problem.now.times.now block < 2 ^ 40 }
-    ensures value { result ≡ row_of (M.meaning machine.now) (seen problem.now) (laid board.now) block }
-    ensures processor { result.processor < (M.meaning machine.now).processors }
-    ensures finish { result.finish ≤ limit (board.now.count + 1) }
-{
-    let (start, processor) = earliest(problem, machine, board, block);
-    Row {
-        block: u64::from(block),
-        processor: u64::from(processor),
-        start,
-        finish: start + problem.times[block as usize],
+impl<'a> Problem<'a> {
+    // The level and the time of a block.
+    fn standing(&self, block: u64) -> Standing
+        ensures { result ≡ standing_in self.now block }
+    {
+        Standing {
+            level: entry(self.levels, block),
+            time: entry(self.times, block),
+        }
     }
 }
 
-// The first of what is at hand and a block's row, if the block is a candidate.
-fn with_block<M: Machine, O: Priority>(
-    problem: &Problem,
-    machine: &M,
-    priority: &O,
-    board: &Board,
-    fed: &[bool; 257],
-    best: Option<Row>,
-    block: u32,
-) -> Option<Row>
-    requires shows { Shows (M.Machine.meaning machine.now) (seen problem.now) board.now }
-    requires some { 1 ≤ (M.Machine.meaning machine.now).processors }
-    requires few { (M.Machine.meaning machine.now).processors ≤ 32 }
-    requires known { block ≤ 256 }
-    requires brief { slice_index problem.now.times.now block < 2 ^ 40 }
-    requires feeds { slice_index_or fed.now block false ≡ is_fed problem.now.messages.now (laid board.now) block }
-    requires fits { Fitting (M.Machine.meaning machine.now).processors board.now.count best }
-    ensures value { result ≡ (if is_candidate (seen problem.now) (laid board.now) block then first_of_two (earlier (O.Priority.meaning priority.now) (standing_in problem.now)) best (row_of (M.Machine.meaning machine.now) (seen problem.now) (laid board.now) block) else best) }
-    ensures fits { Fitting (M.Machine.meaning machine.now).processors board.now.count result }
-{
-    if board.placed[block as usize] || !fed[block as usize] {
-        return best;
+impl<'a, M: Machine, O: Priority> Bench<'a, M, O> {
+    // Whether one block is earlier in the order than another.
+    fn is_earlier(&self, one: u64, other: u64) -> bool
+        ensures { result ≡ earlier_in (O.Priority.meaning self.now.priority.now) self.now.problem.now one other }
+    {
+        is_earlier(
+            self.priority,
+            self.problem.standing(one),
+            self.problem.standing(other),
+            one,
+            other,
+        )
     }
-    let row = row_of(problem, machine, board, block);
-    first_of_two(problem, priority, best, row)
-}
 
-// The row that comes next, where there is a candidate.
-pub(crate) fn choose<M: Machine, O: Priority>(
-    problem: &Problem,
-    machine: &M,
-    priority: &O,
-    board: &Board,
-) -> Option<Row>
-    requires shows { Shows (M.Machine.meaning machine.now) (seen problem.now) board.now }
-    ensures value { result ≡ chosen (M.Machine.meaning machine.now) (seen problem.now) (earlier (O.Priority.meaning priority.now) (standing_in problem.now)) (laid board.now) }
-    ensures fits { Fitting (M.Machine.meaning machine.now).processors board.now.count result }
-{
-    let fed = fed_blocks(problem, board);
-    let mut best = None;
-    for block in problem.blocks {
-        best = with_block(problem, machine, priority, board, &fed, best, *block);
+    // Whether one row comes before another: it starts sooner, or at the same time and its block is earlier in the order.
+    fn comes_before(&self, one: &Row, other: &Row) -> bool
+        ensures { result ≡ comes_before (earlier_in (O.Priority.meaning self.now.priority.now) self.now.problem.now) one.now other.now }
+    {
+        one.start < other.start
+            || (one.start == other.start && self.is_earlier(one.block, other.block))
     }
-    best
+
+    // The first of what is at hand and one row more.
+    fn first_of_two(&self, best: Option<Row>, row: Row) -> Option<Row>
+        ensures { result ≡ first_of_two (earlier_in (O.Priority.meaning self.now.priority.now) self.now.problem.now) best row }
+    {
+        match best {
+            Some(other) if !self.comes_before(&row, &other) => best,
+            _ => Some(row),
+        }
+    }
+
+    // When a block can start on a processor.
+    fn start_on(&self, block: u32, processor: u32) -> u64
+        requires known { block ≤ 256 }
+        requires exists { processor < (M.Machine.meaning self.now.machine.now).processors }
+        ensures { result ≡ start_on (M.Machine.meaning self.now.machine.now) (seen self.now.problem.now) (laid self.now.board) block processor }
+    {
+        let free = self.board.free[processor as usize];
+        free.max(self.board.arrivals[block as usize][processor as usize])
+    }
+
+    // The earliest start of a block, and the lowest processor that has it. A chain over the processors would call a closure
+    // that may start a block on those that exist alone, and a range does not say that it gives no other.
+    fn earliest(&self, block: u32) -> (u64, u32)
+        requires { block ≤ 256 }
+        ensures { result ≡ earliest (M.Machine.meaning self.now.machine.now) (seen self.now.problem.now) (laid self.now.board) block }
+    {
+        let mut best = (self.start_on(block, 0), 0);
+        for processor in 1..self.machine.processors() {
+            let start = self.start_on(block, processor);
+            best = sooner(best, (start, processor));
+        }
+        best
+    }
+
+    // Whether each message to a block comes from a block that has a row, for each block.
+    fn fed_blocks(&self) -> [bool; NUMBERS]
+        ensures { (b : ℕ) → b ≤ 256 → slice_index_or result b false ≡ is_fed self.now.problem.now.messages.now (laid self.now.board) b }
+    {
+        let mut fed = [true; NUMBERS];
+        for message in self.problem.messages {
+            wait_for(message, &self.board.placed, &mut fed);
+        }
+        fed
+    }
+
+    // The row of a block at its earliest start.
+    fn row_of(&self, block: u32) -> Row
+        requires { In block self.now.problem.now.blocks.now }
+        ensures { result ≡ row_of (M.Machine.meaning self.now.machine.now) (seen self.now.problem.now) (laid self.now.board) block }
+    {
+        let (start, processor) = self.earliest(block);
+        Row {
+            block: u64::from(block),
+            processor: u64::from(processor),
+            start,
+            finish: start + self.problem.times[block as usize],
+        }
+    }
+
+    // The first of what is at hand and a block's row, if the block is a candidate.
+    fn with_block(&self, fed: &[bool; NUMBERS], best: Option<Row>, block: u32) -> Option<Row>
+        requires listed { In block self.now.problem.now.blocks.now }
+        requires feeds { slice_index_or fed.now block false ≡ is_fed self.now.problem.now.messages.now (laid self.now.board) block }
+        ensures { result ≡ first_in (M.Machine.meaning self.now.machine.now) self.now.problem.now (O.Priority.meaning self.now.priority.now) (laid self.now.board) best block }
+    {
+        if self.board.placed[block as usize] || !fed[block as usize] {
+            return best;
+        }
+        self.first_of_two(best, self.row_of(block))
+    }
+
+    // The row that comes next, where there is a candidate.
+    pub(crate) fn choose(&self) -> Option<Row>
+        ensures { result ≡ chosen_in (M.Machine.meaning self.now.machine.now) self.now.problem.now (O.Priority.meaning self.now.priority.now) (laid self.now.board) }
+    {
+        let fed = self.fed_blocks();
+        let mut best = None;
+        for block in self.problem.blocks {
+            best = self.with_block(&fed, best, *block);
+        }
+        best
+    }
 }

@@ -1,21 +1,24 @@
-use Rattle.std.proofs.Common.{arith}
+use Rattle.std.proofs.Common.{◌≡◌, length, ap, ◌∙◌, arith}
 use Rattle.schedule.specs.Boards.{laid}
-use Rattle.schedule.specs.Orders.{earlier}
-use Rattle.schedule.specs.Seen.{seen, standing_in}
+use Rattle.schedule.specs.Placing.{placed}
+use Rattle.schedule.specs.Problems.{length_of}
+use Rattle.schedule.specs.Seen.{seen, earlier_in, placing_in}
 use Rattle.schedule.proofs.Choosing.{placed_more}
 use Rattle.schedule.proofs.problem.placing.fill.Goals as goal
 
-pub loop-step-init : goal.loop-step-init
-loop-step-init g c =
-    let few = (g.met.M.Machine.lawful c.args.machine.now).few in
-    (c.empty_board-board.ensures.rows, omega (arith, c.empty_board-board.ensures.count), c.empty_board-board.ensures.shows _ _ few)
+pub loop-preserved : goal.loop-preserved
+loop-preserved g c =
+    let i = c.loop.invariant in
+    let e = c.step.ensures in
+    let more = placed_more (g.M.Machine.meaning c.args.machine.now) _ c.args.problem.now _ (g.O.Priority.meaning c.args.priority.now) _ c.loop.index (laid c.loop.bench.board) (laid c.step.new.self.board)
+    (ap g.M.Machine.meaning i.1) i.0 (ap g.O.Priority.meaning i.2) i.3 e.rows in
+    (e.problem ∙ i.0, e.machine ∙ i.1, e.priority ∙ i.2, more, omega (arith, e.count, i.4))
 
-pub loop-step-preserved : goal.loop-step-preserved
-loop-step-preserved g c =
-    let M = g.M.Machine.meaning c.args.machine.now in
+pub returns : goal.returns
+returns g c =
     let p = c.args.problem.now in
-    let e = earlier (g.O.Priority.meaning c.args.priority.now) (standing_in p) in (
-      placed_more M (seen p) e c.loop-step._step (laid c.loop-step.board) (laid c.step.new.board) c.loop-step.invariant.0 c.step.ensures.rows,
-      omega (arith, c.step.ensures.count, c.loop-step.invariant.1),
-      c.step.ensures.shows,
-    )
+    let e = earlier_in (g.O.Priority.meaning c.args.priority.now) p in
+    let M = g.M.Machine.meaning c.args.machine.now in
+    let end : c.loop.index ≡ length p.blocks.now = omega (arith, c.loop-test.false, c.loop.auto.index-end) in
+    let rows : laid c.loop.bench.board ≡ placing_in M p (g.O.Priority.meaning c.args.priority.now) = c.loop.invariant.3 ∙ ap (placed M (seen p) e) end in
+    record { rows = rows; length = c.loop.bench.last ∙ ap length_of rows; few = c.loop.bench.few }

@@ -1,9 +1,0 @@
-use Rattle.std.proofs.Common.{◌≡◌, ◌-◌}
-use Rattle.schedule.specs.Boards.{laid}
-use Rattle.schedule.specs.Placing.{earliest_upto}
-use Rattle.schedule.specs.Seen.{seen}
-use Rattle.schedule.proofs.problem.choosing.earliest.Given as goal
-
--- the earliest on the processors so far
-abbrev pub invariant-loop-processor : goal.invariant-loop-processor
-invariant-loop-processor g l = l.best ≡ earliest_upto (g.M.Machine.meaning l.machine) (seen l.problem) (laid l.board) l.block (l.processor - 1)

@@ -15,10 +15,5 @@ fn overlap(x: &Row, y: &Row) -> bool
 pub(crate) fn overlaps(above: &[Row], row: &Row) -> bool
     ensures { result ≡ overlaps above.now row.now }
 {
-    for y in above {
-        if overlap(y, row) {
-            return true;
-        }
-    }
-    false
+    above.iter().any(|y| overlap(y, row))
 }

@@ -4,13 +4,12 @@ ghost use Rattle.checking.specs.Accepting.{Judges, AcceptsExactly};
 ghost use Rattle.checking.specs.Checking.{row_refusal, check_refusal, check_answer, unless};
 ghost use Rattle.checking.specs.Jobs.{seen};
 
-use crate::arriving::lacks;
-use crate::first::first_row;
+use crate::arriving::first_lacking;
 use crate::job::Job;
-use crate::naming::misnames;
-use crate::overlapping::overlaps;
+use crate::naming::first_misnamed;
+use crate::overlapping::{first_overlapping, first_stray};
 use crate::refusal::CheckRefusal;
-use crate::timing::{breaks, length_of};
+use crate::timing::{first_broken, length_of};
 use machine::Machine;
 use schedule::rows::Row;
 
@@ -18,23 +17,19 @@ use schedule::rows::Row;
 fn check_each<M: Machine>(job: &Job, machine: &M, rows: &[Row]) -> Result<(), CheckRefusal>
     ensures { result ≡ unless (row_refusal (M.meaning machine.now) (seen job.now) rows.now) tt }
 {
-    let blocks = job.blocks;
-    if let Some(row) = first_row(rows, |above, row| misnames(blocks, above, row)) {
+    if let Some(row) = first_misnamed(job.blocks, rows) {
         return Err(CheckRefusal::Block(row));
     }
-    let processors = u64::from(machine.processors());
-    if let Some(row) = first_row(rows, |_, row| row.processor >= processors) {
+    if let Some(row) = first_stray(machine.processors(), rows) {
         return Err(CheckRefusal::Processor(row));
     }
-    let times = job.times;
-    if let Some(row) = first_row(rows, |_, row| breaks(times, row)) {
+    if let Some(row) = first_broken(job.times, rows) {
         return Err(CheckRefusal::Finish(row));
     }
-    if let Some(row) = first_row(rows, |above, row| overlaps(above, row)) {
+    if let Some(row) = first_overlapping(rows) {
         return Err(CheckRefusal::Overlap(row));
     }
-    let messages = job.messages;
-    if let Some(row) = first_row(rows, |_, row| lacks(machine, messages, rows, row)) {
+    if let Some(row) = first_lacking(machine, job.messages, rows) {
         return Err(CheckRefusal::Arrival(row));
     }
     Ok(())

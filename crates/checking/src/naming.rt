@@ -1,8 +1,9 @@
 // Which blocks there are, and which have rows.
 ghost use Rattle.std.specs.Prelude.{◌≡◌, nat_eq};
 ghost use Rattle.std.specs.List.{list_any};
-ghost use Rattle.checking.specs.Checking.{misnames};
+ghost use Rattle.checking.specs.Checking.{first_row, misnames};
 
+use crate::first::first_row;
 use schedule::rows::Row;
 
 // Whether a block is listed.
@@ -19,9 +20,11 @@ fn is_named(rows: &[Row], block: u64) -> bool
     rows.iter().any(|y| y.block == block)
 }
 
-// Whether the block of a row is not listed, or a row above names it.
-pub(crate) fn misnames(blocks: &[u32], above: &[Row], row: &Row) -> bool
-    ensures { result ≡ misnames blocks.now above.now row.now }
+// The first row whose block is not listed, or named by a row above.
+pub(crate) fn first_misnamed(blocks: &[u32], rows: &[Row]) -> Option<u64>
+    ensures { result ≡ first_row (misnames blocks.now) rows.now }
 {
-    !is_listed(blocks, row.block) || is_named(above, row.block)
+    first_row(rows, |above, row| {
+        !is_listed(blocks, row.block) || is_named(above, row.block)
+    })
 }

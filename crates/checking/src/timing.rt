@@ -1,8 +1,9 @@
 // Times, and their sums, which may pass 64 bits.
 ghost use Rattle.std.specs.Prelude.{◌≡◌, ◌+◌, ◌==◌, nat_lt, slice_index};
 ghost use Rattle.schedule.specs.Problems.{length_of};
-ghost use Rattle.checking.specs.Checking.{breaks};
+ghost use Rattle.checking.specs.Checking.{first_row, breaks};
 
+use crate::first::first_row;
 use schedule::rows::Row;
 
 // Whether a number is below the sum of two others.
@@ -26,11 +27,13 @@ fn is_sum(number: u64, x: u64, y: u64) -> bool
     x.checked_add(y).is_some_and(|sum| number == sum)
 }
 
-// Whether the finish of a row is not its start and the block time.
-pub(crate) fn breaks(times: &[u64; 257], row: &Row) -> bool
-    ensures { result ≡ breaks (λ b. slice_index times.now b) row.now }
+// The first row whose finish is not its start and the block time.
+pub(crate) fn first_broken(times: &[u64; 257], rows: &[Row]) -> Option<u64>
+    ensures { result ≡ first_row (λ above r. breaks (λ b. slice_index times.now b) r) rows.now }
 {
-    !is_sum(row.finish, row.start, time_of(times, row.block))
+    first_row(rows, |_, row| {
+        !is_sum(row.finish, row.start, time_of(times, row.block))
+    })
 }
 
 // The length of a schedule: the greatest finish.

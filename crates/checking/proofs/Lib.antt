@@ -2,6 +2,6 @@ pub mod Somes
 pub mod Firsts
 pub mod Clear
 pub mod Pigeons
-pub mod Told
 pub mod Validity
+pub mod Told
 pub mod Verdicts

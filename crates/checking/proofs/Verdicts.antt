@@ -1,5 +1,5 @@
 -- The refusal of rows by the rows that the tests took.
-use Rattle.std.proofs.Common.{◌≡◌, ℕ, eqb, List, length, Some, None, Ok, Err, Option, Result, sym, refl, ap, ◌∙◌, ⊎_elim, arith}
+use Rattle.std.proofs.Common.{◌≡◌, ℕ, eqb, List, length, Some, None, Ok, Option, sym, refl, ap, ◌∙◌, ⊎_elim, arith}
 use Rattle.std.specs.Option.{option_or, option_map}
 use Rattle.std.proofs.lemmas.Bool.{cases_eq, eq-eqb, ne_eqb, cond-true, cond-false}
 use Rattle.chains.specs.Lists.{Apart}
@@ -12,10 +12,6 @@ use Rattle.checking.specs.Checking.{first_row, misnames, strays, breaks, overlap
 use Rattle.checking.specs.Accepting.{Judges}
 use Rattle.checking.proofs.Validity.{Passed, passed_valid, valid_passed}
 
--- a test that takes no row is passed over
-pass : (o : Option ℕ) (why : ℕ → CheckRefusal) (rest : Option CheckRefusal) → o ≡ None → option_or (option_map why o) rest ≡ rest
-pass o why rest e = ap (λ (k : Option ℕ). option_or (option_map why k) rest) e
-
 -- where nothing is refused each test takes none
 none_here : (o : Option ℕ) (why : ℕ → CheckRefusal) (rest : Option CheckRefusal) → option_or (option_map why o) rest ≡ None → (o ≡ None) × (rest ≡ None)
 none_here None why rest e = (refl, e)
@@ -26,40 +22,8 @@ none_last None why e = refl
 none_last (Some n) why e = absurd (grind (arith, e))
 
 module _ (M : Model) (g : Problem) (rows : List Row) where
-  abbrev Named : Type 0
-  Named = first_row (misnames g.blocks) rows ≡ None
-
-  abbrev Housed : Type 0
-  Housed = first_row (λ above r. strays M.processors r) rows ≡ None
-
-  abbrev Whole : Type 0
-  Whole = first_row (λ above r. breaks g.time r) rows ≡ None
-
-  abbrev Alone : Type 0
-  Alone = first_row overlaps rows ≡ None
-
-  abbrev Checked : Type 0
-  Checked = Result (Unit {0}) CheckRefusal
-
-  -- what is answered where a test takes the row n
-  pub at_processor : (n : ℕ) → Named → first_row (λ above r. strays M.processors r) rows ≡ Some n → ◌≡◌ {A = Checked} (Err (Processor n)) (unless (row_refusal M g rows) tt)
-  at_processor n a b = rw (a, b) refl
-
-  pub at_finish : (n : ℕ) → Named → Housed → first_row (λ above r. breaks g.time r) rows ≡ Some n → ◌≡◌ {A = Checked} (Err (Finish n)) (unless (row_refusal M g rows) tt)
-  at_finish n a b c = rw (a, b, c) refl
-
-  pub at_overlap : (n : ℕ) → Named → Housed → Whole → first_row overlaps rows ≡ Some n → ◌≡◌ {A = Checked} (Err (Overlap n)) (unless (row_refusal M g rows) tt)
-  at_overlap n a b c d = rw (a, b, c, d) refl
-
-  pub at_arrival : (n : ℕ) → Named → Housed → Whole → Alone → first_row (λ above r. lacks M g.messages rows r) rows ≡ Some n → ◌≡◌ {A = Checked} (Err (Arrival n)) (unless (row_refusal M g rows) tt)
-  at_arrival n a b c d e = rw (a, b, c, d, e) refl
-
-  -- nothing is refused where every test takes none
-  unrefused_by : Named → Housed → Whole → Alone → first_row (λ above r. lacks M g.messages rows r) rows ≡ None → row_refusal M g rows ≡ None
-  unrefused_by a b c d e = rw (a, b, c, d, e) refl
-
-  pub at_none : Named → Housed → Whole → Alone → first_row (λ above r. lacks M g.messages rows r) rows ≡ None → ◌≡◌ {A = Checked} (Ok tt) (unless (row_refusal M g rows) tt)
-  at_none a b c d e = rw (unrefused_by a b c d e) refl
+  unrefused_by : Passed M g rows → row_refusal M g rows ≡ None
+  unrefused_by p = rw (p.named, p.housed, p.whole, p.alone, p.fed) refl
 
   unrefused : row_refusal M g rows ≡ None → length rows ≡ length g.blocks → Passed M g rows
   unrefused n many =
@@ -83,7 +47,7 @@ module _ (M : Model) (g : Problem) (rows : List Row) where
   from_passed : Passed M g rows → check_refusal M g rows ≡ None
   from_passed p =
       cond-true (eqb (length rows) (length g.blocks)) (row_refusal M g rows) (Some (RowCount (length rows))) (eq-eqb (length rows) (length g.blocks) p.many)
-      ∙ unrefused_by p.named p.housed p.whole p.alone p.fed
+      ∙ unrefused_by p
 
   none_from : (o : Option CheckRefusal) (n : ℕ) → unless o (length_of rows) ≡ Ok n → o ≡ None
   none_from None n e = refl

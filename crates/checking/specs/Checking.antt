@@ -5,7 +5,6 @@ use Rattle.std.specs.List.{list_any}
 use Rattle.std.specs.Option.{option_or}
 use Rattle.chains.specs.declared.message.Message.{Message}
 use Rattle.std.specs.Borrow.{Bor}
-use Rattle.chains.specs.Lists.{In}
 use Rattle.machine.specs.Model.{Model}
 use Rattle.schedule.specs.declared.rows.Row.{Row}
 use Rattle.schedule.specs.Problems.{Problem, length_of}
@@ -24,9 +23,9 @@ first_after takes above (r ∷ rows) = cond (takes above r) (Some (length above 
 abbrev pub first_row : Test → List Row → Option ℕ
 first_row takes rows = first_after takes [] rows
 
--- what a call of a test may say of one of these rows and the rows above it is what t says
-abbrev pub Agrees : (Bor (List Row) → Bor Row → Bool → Type 0) → List Row → Test → Type 0
-Agrees says rows t = (above : Bor (List Row)) (row : Bor Row) (b : Bool) → In row.now rows → says above row b → b ≡ t above.now row.now
+-- what a call of a test may say of a row and the rows above it is what t says
+abbrev pub Agrees : (Bor (List Row) → Bor Row → Bool → Type 0) → Test → Type 0
+Agrees says t = (above : Bor (List Row)) (row : Bor Row) (b : Bool) → says above row b → b ≡ t above.now row.now
 
 -- the block is not listed, or a row above names it
 abbrev pub misnames : List ℕ → Test

@@ -4,7 +4,7 @@ ghost use Rattle.std.specs.List.{list_any};
 ghost use Rattle.std.specs.Result.{result_ok};
 ghost use Rattle.machine.specs.Model.{delay_answer};
 ghost use Rattle.checking.specs.Checking.{first_row, comes_late, is_awaited, lacks};
-ghost use Rattle.checking.specs.Questions.{Answerable, Housed, told};
+ghost use Rattle.checking.specs.Questions.{told};
 
 use crate::first::first_row;
 use crate::timing::is_below_sum;
@@ -57,11 +57,13 @@ fn lacks<M: Machine>(machine: &M, messages: &[Message], rows: &[Row], row: &Row)
         .any(|message| is_awaited(machine, rows, row, message))
 }
 
-// The first row that starts before its data is there, of rows whose processors are.
-pub(crate) fn first_lacking<M: Machine>(machine: &M, messages: &[Message], rows: &[Row]) -> Option<u64>
-    requires housed { Housed (M.meaning machine.now).processors rows.now }
-    requires sized { Answerable messages.now }
-    ensures { result ≡ first_row (λ above r. lacks (M.meaning machine.now) messages.now rows.now r) rows.now }
+// The first row that starts before its data is there.
+pub(crate) fn first_lacking<M: Machine>(
+    machine: &M,
+    messages: &[Message],
+    rows: &[Row],
+) -> Option<u64>
+    ensures { result ≡ first_row (λ above r. lacks (told (M.meaning machine.now)) messages.now rows.now r) rows.now }
 {
     first_row(rows, |_, row| lacks(machine, messages, rows, row))
 }

@@ -20,7 +20,7 @@ fn check_each<M: Machine>(job: &Job, machine: &M, rows: &[Row]) -> Result<(), Ch
     if let Some(row) = first_misnamed(job.blocks, rows) {
         return Err(CheckRefusal::Block(row));
     }
-    if let Some(row) = first_stray(machine.processors(), rows) {
+    if let Some(row) = first_stray(machine, rows) {
         return Err(CheckRefusal::Processor(row));
     }
     if let Some(row) = first_broken(job.times, rows) {

@@ -8,7 +8,7 @@ use schedule::rows::Row;
 // answers of the rows, by whatever it means, is what the number goes by.
 pub(crate) fn first_row<F: Fn(&[Row], &Row) -> bool>(rows: &[Row], takes: F) -> Option<u64>
     requires { F.IsAlwaysCallable takes }
-    ensures { (t : Test) → Agrees (λ above row b. F.post takes above row b) rows.now t → result ≡ first_row t rows.now }
+    ensures { (t : Test) → Agrees (λ above row b. F.post takes above row b) t → result ≡ first_row t rows.now }
 {
     for (i, row) in rows.iter().enumerate() {
         if takes(&rows[..i], row) {

@@ -3,13 +3,15 @@ ghost use Rattle.std.specs.Prelude.{◌≡◌};
 ghost use Rattle.checking.specs.Checking.{first_row, overlap, overlaps, strays};
 
 use crate::first::first_row;
+use machine::Machine;
 use schedule::rows::Row;
 
 // The first row on a processor that is not there.
-pub(crate) fn first_stray(processors: u32, rows: &[Row]) -> Option<u64>
-    ensures { result ≡ first_row (λ above r. strays processors r) rows.now }
+pub(crate) fn first_stray<M: Machine>(machine: &M, rows: &[Row]) -> Option<u64>
+    ensures { result ≡ first_row (λ above r. strays (M.meaning machine.now).processors r) rows.now }
 {
-    first_row(rows, |_, row| row.processor >= u64::from(processors))
+    let processors = u64::from(machine.processors());
+    first_row(rows, |_, row| row.processor >= processors)
 }
 
 // Whether two rows are on one processor at one time.

@@ -4,8 +4,8 @@ ghost use Rattle.checking.specs.Checking.{Test, Agrees, first_row};
 
 use schedule::rows::Row;
 
-// The number, from 1, of the first row that a test takes, which may look at the rows above it. What a call of the test
-// answers of the rows, by whatever it means, is what the number goes by.
+// The number, from 1, of the first row that a test takes; the test may look at the rows above. The clause says so for
+// every `t` that says what the calls of the test answer.
 pub(crate) fn first_row<F: Fn(&[Row], &Row) -> bool>(rows: &[Row], takes: F) -> Option<u64>
     requires { F.IsAlwaysCallable takes }
     ensures { (t : Test) → Agrees (λ above row b. F.post takes above row b) t → result ≡ first_row t rows.now }

@@ -20,7 +20,7 @@ fn is_named(rows: &[Row], block: u64) -> bool
     rows.iter().any(|y| y.block == block)
 }
 
-// The first row whose block is not listed, or named by a row above.
+// The first row whose block is not listed, or is named by a row above.
 pub(crate) fn first_misnamed(blocks: &[u32], rows: &[Row]) -> Option<u64>
     ensures { result ≡ first_row (misnames blocks.now) rows.now }
 {

@@ -24,7 +24,7 @@ fn time_of(times: &[u64; 257], block: u64) -> u64
 fn is_sum(number: u64, x: u64, y: u64) -> bool
     ensures { result ≡ (number == x + y) }
 {
-    x.checked_add(y).is_some_and(|sum| number == sum)
+    x.checked_add(y) == Some(number)
 }
 
 // The first row whose finish is not its start and the block time.

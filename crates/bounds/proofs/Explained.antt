@@ -8,6 +8,7 @@ use Rattle.chains.specs.Sums.{steps_from}
 use Rattle.chains.proofs.Lists.{in_append, of_map}
 use Rattle.machine.specs.Model.{Model}
 use Rattle.partition.specs.Costs.{work, greatest_below, farthest, step_cost}
+use Rattle.partition.proofs.Delays.{below_ge}
 use Rattle.partition.proofs.Levels.{greatest_ge}
 use Rattle.partition.proofs.Summing.{total_append}
 use Rattle.schedule.specs.declared.rows.Row.{Row}
@@ -26,10 +27,6 @@ dec_step ms a b =
     (either (λ (m : Message). ((m.from ≡ a) × (m.to ≡ b)) → ⊥) (λ (m : Message). (m.from ≡ a) × (m.to ≡ b)) ms
     (λ m i. ⊎_elim (λ (e : m.from ≡ a). ⊎_elim (λ (f : m.to ≡ b). inr (e, f)) (λ (nf : m.to ≡ b → ⊥). inl (λ h. nf h.1)) (cases_eq m.to b)) (λ (ne : m.from ≡ a → ⊥). inl (λ h. ne h.0)) (cases_eq m.from a)))
 
-le_below : (n : ℕ) (f : ℕ → ℕ) (p : ℕ) → p < n → f p ≤ greatest_below n f
-le_below zero f p l = absurd (omega arith)
-le_below (suc n) f p l = ⊎_elim (λ (e : p ≡ n). subst (λ (x : ℕ). f x ≤ greatest_below (suc n) f) (sym e) (omega arith)) (λ (ne : p ≡ n → ⊥). omega (arith, le_below n f p (omega arith))) (cases_eq p n)
-
 -- the step cost is at least every delay of every message of the step
 covers : (M : Model) (ms : List Message) (m : Message) → In m ms → (p q : ℕ) → p < M.processors → q < M.processors → M.delay p q m.size ≤ step_cost M ms m.from m.to
 covers M ms m i p q pl ql =
@@ -38,7 +35,7 @@ covers M ms m i p q pl ql =
     let top : cond (eqb m.from m.from && eqb m.to m.to) d 0 ≤ step_cost M ms m.from m.to =
     greatest_ge (λ (n : Message). cond (eqb n.from m.from && eqb n.to m.to) (farthest M n.size) 0) ms m i in
     let same : cond (eqb m.from m.from && eqb m.to m.to) d 0 ≡ d = ap₂ (λ s t. cond (s && t) d 0) (eq-eqb m.from m.from refl) (eq-eqb m.to m.to refl) in
-    omega (arith, top, same, le_below P (λ p. greatest_below P (λ q. M.delay p q m.size)) p pl, le_below P (λ q. M.delay p q m.size) q ql)
+    omega (arith, top, same, below_ge P (λ p. greatest_below P (λ q. M.delay p q m.size)) p pl, below_ge P (λ q. M.delay p q m.size) q ql)
 
 -- when the data of all senders is everywhere, and which sender is the last
 record Latest (ms : List Message) (cost : ℕ → ℕ → ℕ) (b : ℕ) (rs : List Row) : Type 0 where

@@ -1,12 +1,12 @@
 -- Chosen rows with the newest first, and what of a choice depends only on which rows stand above.
-use Rattle.std.proofs.Common.{◌≡◌, ℕ, Bool, List, [], ◌∷◌, ◌++◌, sym, refl, ap, ◌∙◌, subst, inl, inr, ⊎_elim}
+use Rattle.std.proofs.Common.{◌≡◌, ℕ, Bool, List, [], ◌∷◌, ◌++◌, sym, ◌∙◌, subst, inl, inr, ⊎_elim, append_assoc, append-nil}
 use Rattle.chains.specs.Lists.{In}
 use Rattle.chains.proofs.Lists.{in_left, in_right, in_append}
 use Rattle.machine.specs.Model.{Model}
 use Rattle.schedule.specs.declared.rows.Row.{Row}
 use Rattle.schedule.specs.Problems.{Problem}
 use Rattle.schedule.specs.Choices.{Able, Placed, Candidate, Choice, Chosen}
-use Rattle.bounds.proofs.Splits.{regroup, not_empty, with_last}
+use Rattle.bounds.proofs.Splits.{not_empty, with_last}
 
 -- the same rows
 abbrev pub Alike : List Row → List Row → Type 0
@@ -61,7 +61,7 @@ onto_alike (r ∷ rows) acc done a =
       λ y i. ⊎_elim (λ j. inr (a.1 y j)) (λ j. ⊎_elim (λ (e : y ≡ r). inl e) (λ k. absurd k) j) (in_append y done (r ∷ []) i),
     ) in
     let t = onto_alike rows (r ∷ acc) (done ++ (r ∷ [])) next in
-    subst (λ (l : List Row). Alike (onto acc (r ∷ rows)) l) (sym (regroup done r rows)) t
+    subst (λ (l : List Row). Alike (onto acc (r ∷ rows)) l) (append_assoc done (r ∷ []) rows) t
 
 pub turned_alike : (rows : List Row) → Alike (turned rows) rows
 turned_alike rows = onto_alike rows [] [] (λ y i. i, λ y i. i)
@@ -73,7 +73,7 @@ module _ (M : Model) (g : Problem) (e : ℕ → ℕ → Bool) where
   upto rows c (r ∷ mid) rest acc done s a h =
       let here : Choice M g e acc r = choice_in M g e done acc (a.1, a.0) r (c done (mid ++ rest) r s) in
       let next : Alike (r ∷ acc) (done ++ (r ∷ [])) = onto_alike (r ∷ []) acc done a in
-      upto rows c mid rest (r ∷ acc) (done ++ (r ∷ [])) (s ∙ regroup done r (mid ++ rest)) next (here, h)
+      upto rows c mid rest (r ∷ acc) (done ++ (r ∷ [])) (s ∙ sym (append_assoc done (r ∷ []) (mid ++ rest))) next (here, h)
 
   pub greedy_at : (rows : List Row) → Chosen M g e rows → (above below : List Row) (r : Row) → rows ≡ above ++ (r ∷ below) → Greedy M g e (r ∷ turned above)
   greedy_at rows c above below r s =
@@ -81,11 +81,7 @@ module _ (M : Model) (g : Problem) (e : ℕ → ℕ → Bool) where
       (choice_in M g e above (turned above) (a.1, a.0) r (c above below r s), upto rows c above (r ∷ below) [] [] s (λ y i. i, λ y i. i) tt)
 
   pub greedy : (rows : List Row) → Chosen M g e rows → Greedy M g e (turned rows)
-  greedy rows c = upto rows c rows [] [] [] (at_end rows) (λ y i. i, λ y i. i) tt
-    where
-      at_end : (l : List Row) → l ≡ l ++ []
-      at_end [] = refl
-      at_end (x ∷ l) = ap (λ (z : List Row). x ∷ z) (at_end l)
+  greedy rows c = upto rows c rows [] [] [] (sym (append-nil rows)) (λ y i. i, λ y i. i) tt
 
   pub chosen_none : Chosen M g e []
   chosen_none above below r s = absurd (not_empty above r below s)

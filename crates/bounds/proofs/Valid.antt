@@ -1,5 +1,5 @@
 -- Chosen rows that leave no block out are a valid schedule.
-use Rattle.std.proofs.Common.{◌≡◌, ℕ, ◌+◌, ◌≤◌, Bool, List, [], ◌∷◌, ◌++◌, map, sym, refl, ap, ◌∙◌, subst, inl, inr, ⊎_elim}
+use Rattle.std.proofs.Common.{◌≡◌, ℕ, ◌+◌, ◌≤◌, Bool, List, [], ◌∷◌, ◌++◌, map, sym, refl, ap, ◌∙◌, subst, inl, inr, ⊎_elim, append_assoc}
 use Rattle.chains.specs.declared.message.Message.{Message}
 use Rattle.chains.specs.Lists.{In, Apart}
 use Rattle.chains.proofs.Lists.{in_left, in_right, of_map}
@@ -9,7 +9,7 @@ use Rattle.schedule.specs.Problems.{Problem}
 use Rattle.schedule.specs.Choices.{Placed, Choice, Chosen}
 use Rattle.schedule.specs.Valid.{OneAtATime, Valid}
 use Rattle.bounds.specs.Schedules.{ChosenValid}
-use Rattle.bounds.proofs.Splits.{split_at, regroup_all, regroup}
+use Rattle.bounds.proofs.Splits.{split_at}
 
 module _ (M : Model) (g : Problem) (e : ℕ → ℕ → Bool) (rows : List Row) (c : Chosen M g e rows) where
   -- where a row was chosen
@@ -30,7 +30,7 @@ module _ (M : Model) (g : Problem) (e : ℕ → ℕ → Bool) (rows : List Row) 
   chose_after above rest r s y i =
       let t = split_at y rest i in
       let mid = above ++ (r ∷ t.0) in
-      let parts : rows ≡ mid ++ (y ∷ t.1) = s ∙ ap (λ (l : List Row). above ++ (r ∷ l)) t.2 ∙ sym (regroup_all above (r ∷ t.0) (y ∷ t.1)) in
+      let parts : rows ≡ mid ++ (y ∷ t.1) = s ∙ ap (λ (l : List Row). above ++ (r ∷ l)) t.2 ∙ sym (append_assoc above (r ∷ t.0) (y ∷ t.1)) in
       (record { above = mid; below = t.1; parts = parts; choice = c mid t.1 y parts }, in_right r above (r ∷ t.0) (inl refl))
 
   once : (above rest : List Row) → rows ≡ above ++ rest → Apart (map (λ (r : Row). r.block) rest)
@@ -39,14 +39,14 @@ module _ (M : Model) (g : Problem) (e : ℕ → ℕ → Bool) (rows : List Row) 
     λ i. let p = of_map (λ (x : Row). x.block) r.block rest i in
         let t = chose_after above rest r s p.0 p.1 in
         t.0.choice.candidate.unplaced (record { row = r; there = t.1; is = p.2 }),
-    once (above ++ (r ∷ [])) rest (s ∙ regroup above r rest),
+    once (above ++ (r ∷ [])) rest (s ∙ sym (append_assoc above (r ∷ []) rest)),
   )
 
   alone : (above rest : List Row) → rows ≡ above ++ rest → OneAtATime rest
   alone above [] s = tt
   alone above (r ∷ rest) s = (
     λ y i f. let t = chose_after above rest r s y i in inr (t.0.choice.able.idle r t.1 (sym f)),
-    alone (above ++ (r ∷ [])) rest (s ∙ regroup above r rest),
+    alone (above ++ (r ∷ [])) rest (s ∙ sym (append_assoc above (r ∷ []) rest)),
   )
 
   -- a block has one row
@@ -58,7 +58,7 @@ module _ (M : Model) (g : Problem) (e : ℕ → ℕ → Bool) (rows : List Row) 
       t.0.choice.candidate.unplaced (record { row = q; there = t.1; is = ap (λ (x : Row). x.block) (sym d) ∙ u }) in
       ⊎_elim
       (λ (d : y ≡ q). ⊎_elim (λ (u : z ≡ q). d ∙ sym u) (λ k. absurd (fresh y z d k f)) j)
-      (λ k. ⊎_elim (λ (u : z ≡ q). absurd (fresh z y u k (sym f))) (λ l. same_row rest (above ++ (q ∷ [])) (s ∙ regroup above q rest) y z k l f) j)
+      (λ k. ⊎_elim (λ (u : z ≡ q). absurd (fresh z y u k (sym f))) (λ l. same_row rest (above ++ (q ∷ [])) (s ∙ sym (append_assoc above (q ∷ []) rest)) y z k l f) j)
       i
 
   arrives : (m : Message) → In m g.messages → (x y : Row) → In x rows → In y rows → x.block ≡ m.from → y.block ≡ m.to

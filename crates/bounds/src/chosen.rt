@@ -2,29 +2,21 @@
 ghost use Rattle.bounds.specs.Schedules.{PlacingChooses, StartsRise, ChosenValid, ChosenWaits};
 
 // Placing by any lawful order chooses each row, and leaves no block out.
-pub fn placing_chooses() -> u8
+pub fn placing_chooses()
     ensures { PlacingChooses }
-{
-    0
-}
+{}
 
 // Starts never fall from row to row.
-pub fn starts_never_fall() -> u8
+pub fn starts_never_fall()
     ensures { StartsRise }
-{
-    0
-}
+{}
 
 // Chosen rows that leave no block out are a valid schedule.
-pub fn chosen_rows_are_valid() -> u8
+pub fn chosen_rows_are_valid()
     ensures { ChosenValid }
-{
-    0
-}
+{}
 
 // No block that is earlier in the order waits while it could run.
-pub fn no_earlier_block_waits() -> u8
+pub fn no_earlier_block_waits()
     ensures { ChosenWaits }
-{
-    0
-}
+{}

@@ -1,10 +1,11 @@
 -- Tests that take no row, and what that says of the rows.
-use Rattle.std.proofs.Common.{◌≡◌, ◌+◌, Bool, true, false, ◌||◌, List, [], ◌∷◌, ◌++◌, length, sym, refl, ◌∙◌, subst, inl, inr, ⊎_elim, arith}
+use Rattle.std.proofs.Common.{◌≡◌, ◌+◌, Bool, true, false, ◌||◌, List, [], ◌∷◌, ◌++◌, length, Some, None, sym, refl, ◌∙◌, subst, inl, inr, ⊎_elim, arith}
 use Rattle.std.proofs.lemmas.Bool.{cases_Bool, cond-true, cond-false, or_from, or_parts}
+use Rattle.std.specs.List.{list_any}
 use Rattle.chains.specs.Lists.{In}
 use Rattle.chains.proofs.Lists.{in_left, in_right, in_append}
 use Rattle.schedule.specs.declared.rows.Row.{Row}
-use Rattle.checking.specs.Checking.{Test, some, first_after}
+use Rattle.checking.specs.Checking.{Test, first_after}
 use Rattle.checking.proofs.Somes.{none_passes, all_fail}
 
 -- after the rows above a test takes none of these
@@ -12,20 +13,20 @@ abbrev pub Clear : Test → List Row → List Row → Type 0
 Clear takes above [] = Unit {0}
 Clear takes above (r ∷ rows) = (takes above r ≡ false) × Clear takes (above ++ (r ∷ [])) rows
 
-pub clear_from : (takes : Test) (above rows : List Row) → first_after takes above rows ≡ 0 → Clear takes above rows
+pub clear_from : (takes : Test) (above rows : List Row) → first_after takes above rows ≡ None → Clear takes above rows
 clear_from takes above [] e = tt
 clear_from takes above (r ∷ rows) e =
     ⊎_elim
     (λ (t : takes above r ≡ true).
-    let z : length above + 1 ≡ 0 = sym (cond-true (takes above r) (length above + 1) (first_after takes (above ++ (r ∷ [])) rows) t) ∙ e in absurd (omega arith))
+    let z = sym (cond-true (takes above r) (Some (length above + 1)) (first_after takes (above ++ (r ∷ [])) rows) t) ∙ e in absurd (grind (arith, z)))
     (λ (f : takes above r ≡ false).
-    (f, clear_from takes (above ++ (r ∷ [])) rows (sym (cond-false (takes above r) (length above + 1) (first_after takes (above ++ (r ∷ [])) rows) f) ∙ e)))
+    (f, clear_from takes (above ++ (r ∷ [])) rows (sym (cond-false (takes above r) (Some (length above + 1)) (first_after takes (above ++ (r ∷ [])) rows) f) ∙ e)))
     (cases_Bool (takes above r))
 
-pub from_clear : (takes : Test) (above rows : List Row) → Clear takes above rows → first_after takes above rows ≡ 0
+pub from_clear : (takes : Test) (above rows : List Row) → Clear takes above rows → first_after takes above rows ≡ None
 from_clear takes above [] h = refl
 from_clear takes above (r ∷ rows) h =
-    cond-false (takes above r) (length above + 1) (first_after takes (above ++ (r ∷ [])) rows) h.0 ∙ from_clear takes (above ++ (r ∷ [])) rows h.1
+    cond-false (takes above r) (Some (length above + 1)) (first_after takes (above ++ (r ∷ [])) rows) h.0 ∙ from_clear takes (above ++ (r ∷ [])) rows h.1
 
 -- a test of the row alone
 pub each_clear : (p : Row → Bool) (above rows : List Row) → Clear (λ ab r. p r) above rows → (r : Row) → In r rows → p r ≡ false
@@ -56,7 +57,7 @@ Pairwise clash [] = Unit {0}
 Pairwise clash (r ∷ rows) = ((y : Row) → In y rows → clash r y ≡ false) × Pairwise clash rows
 
 -- a test whether the row clashes with one above
-pub across : (clash : Row → Row → Bool) (above rows : List Row) → Clear (λ ab r. some (λ y. clash y r) ab) above rows
+pub across : (clash : Row → Row → Bool) (above rows : List Row) → Clear (λ ab r. list_any (λ y. clash y r) ab) above rows
     → (y r : Row) → In y above → In r rows → clash y r ≡ false
 across clash above [] h y r i j = absurd j
 across clash above (x ∷ rows) h y r i j =
@@ -65,13 +66,13 @@ across clash above (x ∷ rows) h y r i j =
     (λ k. across clash (above ++ (x ∷ [])) rows h.1 y r (in_left y above (x ∷ []) i) k)
     j
 
-pub pairs_clear : (clash : Row → Row → Bool) (above rows : List Row) → Clear (λ ab r. some (λ y. clash y r) ab) above rows → Pairwise clash rows
+pub pairs_clear : (clash : Row → Row → Bool) (above rows : List Row) → Clear (λ ab r. list_any (λ y. clash y r) ab) above rows → Pairwise clash rows
 pairs_clear clash above [] h = tt
 pairs_clear clash above (x ∷ rows) h =
     (λ y i. across clash (above ++ (x ∷ [])) rows h.1 x y (in_right x above (x ∷ []) (inl refl)) i, pairs_clear clash (above ++ (x ∷ [])) rows h.1)
 
 pub clear_pairs : (clash : Row → Row → Bool) (above rows : List Row) → ((y r : Row) → In y above → In r rows → clash y r ≡ false) → Pairwise clash rows
-    → Clear (λ ab r. some (λ y. clash y r) ab) above rows
+    → Clear (λ ab r. list_any (λ y. clash y r) ab) above rows
 clear_pairs clash above [] a p = tt
 clear_pairs clash above (x ∷ rows) a p = (
   all_fail (λ (y : Row). clash y x) above (λ y i. a y x i (inl refl)),

@@ -1,7 +1,9 @@
 -- The questions that machines answer: sizes of messages, and processors of rows.
-use Rattle.std.specs.Prelude.{ℕ, ◌<◌, ◌≤◌, List}
+use Rattle.std.specs.Prelude.{ℕ, ◌<◌, ◌≤◌, List, unwrap_or}
+use Rattle.std.specs.Result.{result_ok}
 use Rattle.chains.specs.declared.message.Message.{Message}
 use Rattle.chains.specs.Lists.{In}
+use Rattle.machine.specs.Model.{Model, delay_answer}
 use Rattle.schedule.specs.declared.rows.Row.{Row}
 
 -- machines answer for every message's size
@@ -12,8 +14,12 @@ Answerable ms = (m : Message) → In m ms → m.size ≤ 1000000
 abbrev pub Housed : ℕ → List Row → Type 0
 Housed processors rows = (r : Row) → In r rows → r.processor < processors
 
--- a machine of so many processors answers for every message from one of the rows to this row
-pub record Askable (processors : ℕ) (ms : List Message) (rows : List Row) (r : Row) : Type 0 where
-  pub to : r.processor < processors
-  pub from : Housed processors rows
-  pub small : Answerable ms
+-- a machine by what it answers, with 0 for a delay that it refuses
+abbrev pub told : Model → Model
+told M = record {
+  processors = M.processors;
+  delay = λ p q s. unwrap_or (result_ok (delay_answer M p q s)) 0;
+  startup = M.startup;
+  reading = M.reading;
+  writing = M.writing;
+}

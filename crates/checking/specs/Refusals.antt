@@ -1,5 +1,5 @@
 -- The layer, the number and the place of each refusal of rows, case by case.
-use Rattle.std.specs.Prelude.{ℕ}
+use Rattle.std.specs.Prelude.{ℕ, List, ◌++◌, codes, decimal}
 use Rattle.checking.specs.declared.refusal.CheckRefusal.{CheckRefusal}
 use Rattle.checking.specs.declared.refusal.CheckRefusal.TheVariants.{WrongStage, RowCount, Block, Processor, Finish, Overlap, Arrival}
 
@@ -31,3 +31,7 @@ place_of (Processor row) = row
 place_of (Finish row) = row
 place_of (Overlap row) = row
 place_of (Arrival row) = row
+
+-- what a refusal prints: its layer, its number and its place, with single spaces
+abbrev pub text_of : CheckRefusal → List ℕ
+text_of why = decimal (layer_of why) ++ codes " " ++ decimal (number_of why) ++ codes " " ++ decimal (place_of why)

@@ -1,100 +1,62 @@
 // Checking rows.
 ghost use Rattle.std.specs.Prelude.{◌≡◌};
-ghost use Rattle.schedule.specs.Problems.{length_of};
 ghost use Rattle.checking.specs.Accepting.{Judges, AcceptsExactly};
-ghost use Rattle.checking.specs.Checking.{row_refusal, check_refusal, check_answer};
+ghost use Rattle.checking.specs.Checking.{row_refusal, check_refusal, check_answer, unless};
 ghost use Rattle.checking.specs.Jobs.{seen};
 
-use crate::first::{Breaks, Lacks, Misnames, Overlaps, Strays, first_row};
+use crate::arriving::first_lacking;
 use crate::job::Job;
+use crate::naming::first_misnamed;
+use crate::overlapping::{first_overlapping, first_stray};
 use crate::refusal::CheckRefusal;
+use crate::timing::{first_broken, length_of};
 use machine::Machine;
 use schedule::rows::Row;
 
-// The length of a schedule: the greatest finish.
-fn length_of(rows: &[Row]) -> u64
-    ensures { result ≡ length_of rows.now }
+// Whether no row is refused, each test over all rows before the next.
+fn check_each<M: Machine>(job: &Job, machine: &M, rows: &[Row]) -> Result<(), CheckRefusal>
+    ensures { result ≡ unless (row_refusal (M.meaning machine.now) (seen job.now) rows.now) tt }
 {
-    let mut length = 0;
-    for row in rows {
-        length = row.finish.max(length);
+    if let Some(row) = first_misnamed(job.blocks, rows) {
+        return Err(CheckRefusal::Block(row));
     }
-    length
+    if let Some(row) = first_stray(machine, rows) {
+        return Err(CheckRefusal::Processor(row));
+    }
+    if let Some(row) = first_broken(job.times, rows) {
+        return Err(CheckRefusal::Finish(row));
+    }
+    if let Some(row) = first_overlapping(rows) {
+        return Err(CheckRefusal::Overlap(row));
+    }
+    if let Some(row) = first_lacking(machine, job.messages, rows) {
+        return Err(CheckRefusal::Arrival(row));
+    }
+    Ok(())
 }
 
-// Why the rows are refused one by one, each test over all rows before the next.
-fn row_fault<M: Machine>(job: &Job, machine: &M, rows: &[Row]) -> Option<CheckRefusal>
-    ensures { result ≡ row_refusal (M.meaning machine.now) (seen job.now) rows.now }
-{
-    let misnaming = first_row(&Misnames { blocks: job.blocks }, rows);
-    if misnaming != 0 {
-        return Some(CheckRefusal::Block(misnaming));
-    }
-    let straying = first_row(
-        &Strays {
-            processors: machine.processors(),
-        },
-        rows,
-    );
-    if straying != 0 {
-        return Some(CheckRefusal::Processor(straying));
-    }
-    let breaking = first_row(&Breaks { times: job.times }, rows);
-    if breaking != 0 {
-        return Some(CheckRefusal::Finish(breaking));
-    }
-    let overlapping = first_row(&Overlaps, rows);
-    if overlapping != 0 {
-        return Some(CheckRefusal::Overlap(overlapping));
-    }
-    let lacking = first_row(
-        &Lacks {
-            machine,
-            messages: job.messages,
-            rows,
-        },
-        rows,
-    );
-    if lacking != 0 {
-        return Some(CheckRefusal::Arrival(lacking));
-    }
-    None
-}
-
-// Why the rows are refused, where they are.
-fn fault<M: Machine>(job: &Job, machine: &M, rows: &[Row]) -> Option<CheckRefusal>
-    ensures { result ≡ check_refusal (M.meaning machine.now) (seen job.now) rows.now }
+// Whether the rows are as many as the blocks, and then whether no row is refused.
+fn check_all<M: Machine>(job: &Job, machine: &M, rows: &[Row]) -> Result<(), CheckRefusal>
+    ensures { result ≡ unless (check_refusal (M.meaning machine.now) (seen job.now) rows.now) tt }
 {
     if rows.len() != job.blocks.len() {
-        return Some(CheckRefusal::RowCount(rows.len() as u64));
+        return Err(CheckRefusal::RowCount(rows.len() as u64));
     }
-    row_fault(job, machine, rows)
+    check_each(job, machine, rows)
 }
 
 // The length of the rows, or why they are refused.
 fn answer<M: Machine>(job: &Job, machine: &M, rows: &[Row]) -> Result<u64, CheckRefusal>
     ensures { result ≡ check_answer (M.meaning machine.now) (seen job.now) rows.now }
 {
-    match fault(job, machine, rows) {
-        Some(why) => Err(why),
-        None => Ok(length_of(rows)),
-    }
+    check_all(job, machine, rows)?;
+    Ok(length_of(rows))
 }
 
-// An answer as it is: it accepts exactly the valid schedules.
-fn judged<M: Machine>(
-    job: &Job,
-    machine: &M,
-    rows: &[Row],
-    given: Result<u64, CheckRefusal>,
-) -> Result<u64, CheckRefusal>
-    requires { given ≡ check_answer (M.meaning machine.now) (seen job.now) rows.now }
-    ensures answer { result ≡ check_answer (M.meaning machine.now) (seen job.now) rows.now }
-    ensures valid { Judges (M.meaning machine.now) (seen job.now) rows.now result }
-    ensures exact { AcceptsExactly }
-{
-    given
-}
+// What is answered accepts exactly the valid schedules.
+fn answers_judge()
+    ensures { AcceptsExactly }
+{}
 
 // The length of the rows, which may come from anyone and in any order; refused unless they are a valid schedule of the
 // job on the machine.
@@ -103,5 +65,6 @@ pub fn check<M: Machine>(job: &Job, machine: &M, rows: &[Row]) -> Result<u64, Ch
     ensures valid { Judges (M.meaning machine.now) (seen job.now) rows.now result }
     ensures exact { AcceptsExactly }
 {
-    judged(job, machine, rows, answer(job, machine, rows))
+    answers_judge();
+    answer(job, machine, rows)
 }

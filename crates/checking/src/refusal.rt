@@ -1,6 +1,8 @@
 // Why rows are refused.
-ghost use Rattle.std.specs.Prelude.{◌≡◌};
-ghost use Rattle.checking.specs.Refusals.{layer_of, number_of, place_of};
+ghost use Rattle.std.specs.Prelude.{◌≡◌, Some};
+ghost use Rattle.checking.specs.Refusals.{layer_of, number_of, place_of, text_of};
+
+use std::fmt;
 
 // A number in a case is the place that the refusal names: how many rows there are, or a row's number from 1.
 #[derive(Clone, Copy, PartialEq, Eq, Debug)]
@@ -50,12 +52,21 @@ impl CheckRefusal {
     {
         match self {
             CheckRefusal::WrongStage => 0,
-            CheckRefusal::RowCount(rows) => *rows,
-            CheckRefusal::Block(row) => *row,
-            CheckRefusal::Processor(row) => *row,
-            CheckRefusal::Finish(row) => *row,
-            CheckRefusal::Overlap(row) => *row,
-            CheckRefusal::Arrival(row) => *row,
+            CheckRefusal::RowCount(place)
+            | CheckRefusal::Block(place)
+            | CheckRefusal::Processor(place)
+            | CheckRefusal::Finish(place)
+            | CheckRefusal::Overlap(place)
+            | CheckRefusal::Arrival(place) => *place,
         }
+    }
+}
+
+// The layer, the number and the place.
+impl fmt::Display for CheckRefusal {
+    ghost output = { λ why. Some (text_of why) };
+
+    fn fmt<W: fmt::Write>(&self, f: &mut fmt::Formatter<W>) -> fmt::Result {
+        write!(f, "{} {} {}", self.layer(), self.number(), self.place())
     }
 }

@@ -2,7 +2,8 @@
 ghost use Rattle.std.specs.Prelude.{◌≡◌};
 ghost use Rattle.page.specs.Replies.{filled, reply};
 
-// Writes the text to the front of the output where it fits, and answers its length; else writes nothing, and answers minus the bytes that are needed.
+// Writes the text to the front of the output where it fits, and answers its length; else writes nothing, and answers
+// minus the bytes that are needed. One number says both, since a C caller reads it.
 pub fn hand_out(text: &[u8], output: &mut [u8]) -> i64
     ensures value { result ≡ reply text.now output.old }
     ensures after { output.new ≡ filled text.now output.old }

@@ -29,7 +29,7 @@ pub fn refusal_page(faults: &[Fault]) -> Option<Page>
         return None;
     }
     let mut page = Page::new();
-    page.put_text(b"refused");
+    page.put("refused");
     page.put_faults(faults);
     Some(page)
 }

@@ -13,7 +13,7 @@ pub returns : goal.returns
 returns c =
     let faults = c.args.faults.now in
     let front = page_text c.args.self.now in
-    c.push.ensures.text
+    c.put.ensures.text
     ∙ ap (λ z. z ++ 10 ∷ []) (joined_all spaced_fault front faults c.loop-fault.fault-index _ (omega arith) c.loop-fault.invariant.0)
     ∙ append_assoc front (flat_map spaced_fault faults) (10 ∷ [])
     ∙ ap (λ z. front ++ (z ++ 10 ∷ [])) (spaced_faults faults)

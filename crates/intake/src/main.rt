@@ -5,17 +5,15 @@ mod print;
 
 use planner::intake::take_in;
 use planner::task_graph::TaskGraph;
-use print::{print_graph, print_refusal};
+use print::print_graph;
 use std::io::Read;
 use words::bytes::words_of_bytes;
-
-// As many words as the largest job has: 3, two for each of 256 tasks, and three for each of 1,024 links.
-const MOST_WORDS: usize = 3587;
+use words::layout::MAX_WORDS;
 
 fn main(rt: HostRuntime) -> anyhow::Result<()> {
     let mut input = Vec::new(rt.alloc());
     rt.stdin().read_to_end(&mut input)?;
-    let mut words = [0u32; MOST_WORDS];
+    let mut words = [0u32; MAX_WORDS];
     let Some(count) = words_of_bytes(&input, &mut words) else {
         let bytes = input.len();
         println!(rt; "refused 5 31 {bytes}")?;
@@ -24,7 +22,7 @@ fn main(rt: HostRuntime) -> anyhow::Result<()> {
     let mut graph = TaskGraph::new(rt.alloc())?;
     match take_in(&mut graph, &words[0..count]) {
         Ok(_) => print_graph(&rt, &graph)?,
-        Err(why) => print_refusal(&rt, why)?,
+        Err(why) => println!(rt; "refused {why}")?,
     }
     Ok(())
 }

@@ -1,10 +1,8 @@
 // What is printed: lines of words and numbers with a space between each two.
 use graph::records::Link;
-use planner::intake_refusal::IntakeRefusal;
 use planner::task_graph::TaskGraph;
 use std::io;
-
-const MOST_WORDS: usize = 3587;
+use words::layout::MAX_WORDS;
 
 // The numbers of a list of links, from its newest on; it has no more links than there are, and 0 ends it.
 fn print_list(rt: &impl Print, links: &[Link], newest: u32) -> io::Result<()> {
@@ -36,7 +34,7 @@ fn print_tasks(rt: &impl Print, graph: &TaskGraph) -> io::Result<()> {
 
 // The words written back.
 fn print_words(rt: &impl Print, graph: &TaskGraph) -> io::Result<()> {
-    let mut words = [0u32; MOST_WORDS];
+    let mut words = [0u32; MAX_WORDS];
     if let Ok(count) = graph.write_words(&mut words) {
         print!(rt; "words")?;
         for word in words.iter().take(count as usize) {
@@ -54,26 +52,4 @@ pub fn print_graph(rt: &impl Print, graph: &TaskGraph) -> io::Result<()> {
     println!(rt; "closed {tasks}")?;
     print_tasks(rt, graph)?;
     print_words(rt, graph)
-}
-
-// Each layer's number and place, the outermost first.
-pub fn print_refusal(rt: &impl Print, why: IntakeRefusal) -> io::Result<()> {
-    let below = match why {
-        IntakeRefusal::Read(why) => {
-            let number = why.number();
-            let place = why.place();
-            print!(rt; "refused 2 {number} {place}")?;
-            why.below()
-        }
-        IntakeRefusal::Close(why) => {
-            print!(rt; "refused")?;
-            Some(why)
-        }
-    };
-    if let Some(why) = below {
-        let number = why.number();
-        let place = why.place();
-        print!(rt; " 1 {number} {place}")?;
-    }
-    println!(rt; "")
 }

@@ -1,12 +1,13 @@
 // Taking a job in: its words are read, and the graph that they stand for is closed.
-ghost use Rattle.std.specs.Prelude.{◌≡◌};
+ghost use Rattle.std.specs.Prelude.{◌≡◌, Some};
 ghost use Rattle.planner.specs.declared.intake_refusal.IntakeRefusal.TheVariants.{Read, Close};
-ghost use Rattle.planner.specs.Intake.{taking_in};
+ghost use Rattle.planner.specs.Intake.{taking_in, text_of};
 ghost use Rattle.planner.specs.Of.{state_of};
 
 use crate::intake_refusal::IntakeRefusal;
 use crate::task_graph::TaskGraph;
 use graph::records::Refusal;
+use std::fmt;
 use words::refusal::ReadRefusal;
 
 impl From<ReadRefusal> for IntakeRefusal {
@@ -22,6 +23,18 @@ impl From<Refusal> for IntakeRefusal {
 
     fn from(why: Refusal) -> IntakeRefusal {
         IntakeRefusal::Close(why)
+    }
+}
+
+// A refusal is shown by the numbers of each layer, the outermost first.
+impl fmt::Display for IntakeRefusal {
+    ghost output = { λ why. Some (text_of why) };
+
+    fn fmt<W: fmt::Write>(&self, f: &mut fmt::Formatter<W>) -> fmt::Result {
+        match self {
+            IntakeRefusal::Read(why) => write!(f, "{why}"),
+            IntakeRefusal::Close(why) => write!(f, "{why}"),
+        }
     }
 }
 

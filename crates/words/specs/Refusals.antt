@@ -32,10 +32,10 @@ below (WrongPointer w) = None
 below (NotNamedOnce w) = None
 below (Refused w why) = Some why
 
--- what is printed of a refusal of layer 2, and then of the graph's below it, which is of layer 1, as "2 4 11 1 4 9"
+-- what a refusal is shown as: layer, number and place, and then the graph's refusal below it, as "2 4 11 1 4 9"
 abbrev pub text_over : ℕ → ℕ → Option Refusal → List ℕ
-text_over number place None = codes "2 " ++ (decimal number ++ (codes " " ++ decimal place))
-text_over number place (Some why) = codes "2 " ++ (decimal number ++ (codes " " ++ (decimal place ++ (codes " 1 " ++ (decimal (graph.number_of why) ++ (codes " " ++ decimal (graph.place_of why)))))))
+text_over number place None = decimal 2 ++ codes " " ++ decimal number ++ codes " " ++ decimal place
+text_over number place (Some why) = decimal 2 ++ codes " " ++ decimal number ++ codes " " ++ decimal place ++ codes " " ++ graph.text_of why
 
-abbrev pub refusal_text : ReadRefusal → List ℕ
-refusal_text why = text_over (number_of why) (place_of why) (below why)
+abbrev pub text_of : ReadRefusal → List ℕ
+text_of why = text_over (number_of why) (place_of why) (below why)

@@ -1,6 +1,6 @@
 // The numbers by which a reader's refusals are known outside, and the text that is printed of them.
 ghost use Rattle.std.specs.Prelude.{◌≡◌, Some};
-ghost use Rattle.words.specs.Refusals.{number_of, place_of, below as lower, refusal_text};
+ghost use Rattle.words.specs.Refusals.{number_of, place_of, below as lower, text_of};
 
 use crate::refusal::ReadRefusal;
 use graph::records::Refusal;
@@ -46,20 +46,19 @@ impl ReadRefusal {
     }
 }
 
-// Layer 2, the number and the place, and then what adding or linking would have said, which is of layer 1.
+// The layer of every refusal of a list of words.
+pub const LAYER: u32 = 2;
+
+// A refusal is shown by its layer, its number and its place, and then by what adding or linking would have said.
 impl fmt::Display for ReadRefusal {
-    ghost output = { λ why. Some (refusal_text why) };
+    ghost output = { λ why. Some (text_of why) };
 
     fn fmt<W: fmt::Write>(&self, f: &mut fmt::Formatter<W>) -> fmt::Result {
         let number = self.number();
         let place = self.place();
         match self.below() {
-            Some(why) => {
-                let number_below = why.number();
-                let place_below = why.place();
-                write!(f, "2 {number} {place} 1 {number_below} {place_below}")
-            }
-            None => write!(f, "2 {number} {place}"),
+            Some(why) => write!(f, "{LAYER} {number} {place} {why}"),
+            None => write!(f, "{LAYER} {number} {place}"),
         }
     }
 }

@@ -1,9 +1,9 @@
 -- A task's list of links holds exactly the links that it sends.
-use Rattle.std.proofs.Common.{◌≡◌, ℕ, zero, suc, ◌+◌, ◌-◌, ◌≤◌, Bool, false, eqb, List, length, get_or, take, sym, refl, ap, ◌∙◌, add-one, arith}
+use Rattle.std.proofs.Common.{◌≡◌, ℕ, zero, suc, ◌+◌, ◌-◌, ◌≤◌, Bool, false, eqb, List, length, get_or, take, refl, ap, ◌∙◌, add-one, arith}
 use Rattle.std.proofs.lemmas.List.{take_all}
 use Rattle.std.proofs.lemmas.Bool.Decides.{nat_tests}
 use Rattle.graph.specs.declared.records.Link.{Link}
-use Rattle.graph.specs.Net.{Net, no_link, no_task, newest_of, Sound, Threaded}
+use Rattle.graph.specs.Net.{Net, no_link, newest_of, Sound, Threaded}
 use Rattle.graph.specs.Outgoing.{along, sent_by, ListsAreExact}
 use Rattle.graph.proofs.LastOfs.{last_bound, last_take_more}
 

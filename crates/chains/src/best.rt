@@ -6,11 +6,10 @@ ghost use Rattle.chains.specs.Chains.{successors, Enumerates, Ordered};
 ghost use Rattle.chains.specs.Figures.{BestAtEach};
 ghost use Rattle.chains.specs.Links.{latest, message_at};
 
-use std::mem;
-
 use crate::figure::ChainFigure;
 use crate::message::Message;
 use crate::network::Network;
+use std::mem;
 
 /// The messages by sender: for each block its last message, and for each message the one before it from that block.
 // lists by number in two tables: a planning loop may use no heap, and one pass over the messages fills them

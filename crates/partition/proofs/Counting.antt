@@ -1,6 +1,6 @@
 -- The list of all blocks, and how many there are.
-use Rattle.std.proofs.Common.{◌≡◌, ℕ, zero, suc, ◌+◌, ◌<◌, ◌≤◌, Bool, false, cond, not, eqb, List, [], ◌∷◌, length, filter, sym, refl, ap, subst, inl, inr, ⊎_elim, arith}
-use Rattle.std.proofs.lemmas.Bool.{cases_eq, cases_Bool, eq-eqb, ne_eqb, cond-true, cond-false}
+use Rattle.std.proofs.Common.{◌≡◌, ℕ, zero, suc, ◌+◌, ◌<◌, ◌≤◌, Bool, true, false, cond, not, eqb, List, [], ◌∷◌, length, filter, sym, refl, ap, subst, inl, inr, ⊎_elim, arith}
+use Rattle.std.proofs.lemmas.Bool.{cases_eq, eq-eqb, ne_eqb, eqb-true, cond-true, cond-false}
 use Rattle.chains.specs.Chains.{place, Once}
 use Rattle.chains.specs.Lists.{In, Apart, total}
 use Rattle.chains.proofs.Lists.{in_left, in_right, in_append, apart_append, once_apart, place_in}
@@ -13,10 +13,12 @@ one blocks b = cond (eqb (block_of blocks b) b) (b ∷ []) []
 
 of_one : (blocks : List ℕ) (b x : ℕ) → In x (one blocks b) → (x ≡ b) × (block_of blocks b ≡ b)
 of_one blocks b x i =
-    ⊎_elim
-    (λ (e : block_of blocks b ≡ b). (⊎_elim (λ (q : x ≡ b). q) (λ k. absurd k) (subst (λ (ys : List ℕ). In x ys) (cond-true (eqb (block_of blocks b) b) (b ∷ []) [] (eq-eqb (block_of blocks b) b e)) i), e))
-    (λ (ne : block_of blocks b ≡ b → ⊥). absurd (subst (λ (ys : List ℕ). In x ys) (cond-false (eqb (block_of blocks b) b) (b ∷ []) [] (ne_eqb (block_of blocks b) b ne)) i))
-    (cases_eq (block_of blocks b) b)
+    let P : Bool → Type 0 = λ t. eqb (block_of blocks b) b ≡ t → In x (cond t (b ∷ []) []) → (x ≡ b) × (block_of blocks b ≡ b) in
+    let both : P (eqb (block_of blocks b) b) = elim (eqb (block_of blocks b) b) as P [
+      | true ↦ λ e j. (⊎_elim (λ (q : x ≡ b). q) (λ k. absurd k) j, eqb-true (block_of blocks b) b e)
+      | false ↦ λ e j. absurd j
+    ] in
+    both refl i
 
 pub of_among : (blocks : List ℕ) (n x : ℕ) → In x (blocks_among blocks n) → (1 ≤ x) × (x ≤ n) × (block_of blocks x ≡ x)
 of_among blocks zero x i = absurd i
@@ -36,38 +38,31 @@ in_among blocks (suc n) x lo hi e =
     (λ (ne : x ≡ suc n → ⊥). in_left x (blocks_among blocks n) (one blocks (suc n)) (in_among blocks n x lo (omega (arith, hi, ne)) e))
     (cases_eq x (suc n))
 
-apart_one : (blocks : List ℕ) (b : ℕ) → Apart (one blocks b)
-apart_one blocks b =
-    ⊎_elim
-    (λ y. subst (λ (ys : List ℕ). Apart ys) (sym (cond-true (eqb (block_of blocks b) b) (b ∷ []) [] y)) (λ i. i, tt))
-    (λ y. subst (λ (ys : List ℕ). Apart ys) (sym (cond-false (eqb (block_of blocks b) b) (b ∷ []) [] y)) tt)
-    (cases_Bool (eqb (block_of blocks b) b))
+apart_one : (t : Bool) (b : ℕ) → Apart (cond t (b ∷ []) [])
+apart_one true b = (λ i. i, tt)
+apart_one false b = tt
 
 pub apart_among : (blocks : List ℕ) (n : ℕ) → Apart (blocks_among blocks n)
 apart_among blocks zero = tt
 apart_among blocks (suc n) =
-    apart_append (blocks_among blocks n) (one blocks (suc n)) (apart_among blocks n) (apart_one blocks (suc n))
+    apart_append (blocks_among blocks n) (one blocks (suc n)) (apart_among blocks n) (apart_one (eqb (block_of blocks (suc n)) (suc n)) (suc n))
     (λ x i j. omega (arith, (of_among blocks n x i).1, (of_one blocks (suc n) x j).0))
 
 -- what a test keeps sums to no more
 kept_le : (f : ℕ → ℕ) (p : ℕ → Bool) (ys : List ℕ) → total f (filter p ys) ≤ total f ys
 kept_le f p [] = omega arith
 kept_le f p (y ∷ ys) =
-    ⊎_elim
-    (λ e. subst (λ (zs : List ℕ). total f zs ≤ total f (y ∷ ys)) (sym (cond-true (p y) (y ∷ filter p ys) (filter p ys) e)) (omega (arith, kept_le f p ys)))
-    (λ e. subst (λ (zs : List ℕ). total f zs ≤ total f (y ∷ ys)) (sym (cond-false (p y) (y ∷ filter p ys) (filter p ys) e)) (omega (arith, kept_le f p ys)))
-    (cases_Bool (p y))
+    let ih = kept_le f p ys in
+    elim (p y) as (λ t. total f (cond t (y ∷ filter p ys) (filter p ys)) ≤ f y + total f ys) [ true ↦ omega (arith, ih) | false ↦ omega (arith, ih) ]
 
 -- a test that one of a list does not pass keeps less
 kept_less : (f : ℕ → ℕ) (p : ℕ → Bool) (ys : List ℕ) (x : ℕ) → In x ys → p x ≡ false → f x + total f (filter p ys) ≤ total f ys
 kept_less f p [] x i out = absurd i
 kept_less f p (y ∷ ys) x i out =
     ⊎_elim
-    (λ (e : x ≡ y). subst (λ (zs : List ℕ). f x + total f zs ≤ total f (y ∷ ys)) (sym (cond-false (p y) (y ∷ filter p ys) (filter p ys) (subst (λ k. p k ≡ false) e out))) (omega (arith, ap f e, kept_le f p ys)))
-    (λ j. ⊎_elim
-    (λ e. subst (λ (zs : List ℕ). f x + total f zs ≤ total f (y ∷ ys)) (sym (cond-true (p y) (y ∷ filter p ys) (filter p ys) e)) (omega (arith, kept_less f p ys x j out)))
-    (λ e. subst (λ (zs : List ℕ). f x + total f zs ≤ total f (y ∷ ys)) (sym (cond-false (p y) (y ∷ filter p ys) (filter p ys) e)) (omega (arith, kept_less f p ys x j out)))
-    (cases_Bool (p y)))
+    (λ (e : x ≡ y). omega (arith, ap (total f) (cond-false (p y) (y ∷ filter p ys) (filter p ys) (subst (λ k. p k ≡ false) e out)), ap f e, kept_le f p ys))
+    (λ j. let ih = kept_less f p ys x j out in
+    elim (p y) as (λ t. f x + total f (cond t (y ∷ filter p ys) (filter p ys)) ≤ f y + total f ys) [ true ↦ omega (arith, ih) | false ↦ omega (arith, ih) ])
     i
 
 -- a list without repeats sums to no more than one that has all of it

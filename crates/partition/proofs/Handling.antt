@@ -1,10 +1,10 @@
 -- The messages of a partition go between blocks of its tasks, and a machine answers for their sizes.
-use Rattle.std.proofs.Common.{◌≡◌, ℕ, ◌≤◌, List, length, sym, ◌∙◌, subst, arith}
+use Rattle.std.proofs.Common.{◌≡◌, ℕ, ◌<◌, ◌≤◌, List, length, slice_index_or, sym, ◌∙◌, subst, arith}
 use Rattle.graph.specs.declared.records.Link.{Link}
 use Rattle.graph.specs.Net.{no_link, Joined, Sized}
 use Rattle.chains.specs.declared.message.Message.{Message}
 use Rattle.chains.specs.Chains.{Ordered}
-use Rattle.chains.proofs.Lists.{in_index}
+use Rattle.chains.proofs.Lists.{in_getD, in_index}
 use Rattle.partition.specs.Blocks.{messages}
 use Rattle.partition.specs.Times.{Handled}
 use Rattle.partition.specs.Views.{Least, Listed, Numbered}
@@ -61,6 +61,12 @@ ordered p = record {
 -- and so are the messages that stand with a partition
 pub fair_as : (x : Crossings) (ms : List Message) → ms ≡ held x → Fair ms
 fair_as x ms e = subst (λ (xs : List Message). Fair xs) (sym (e ∙ x.all)) (fair x.partition)
+
+-- each of them goes between blocks of tasks, and a machine answers for its size
+pub held_good : (x : Crossings) (ms : List Message) → ms ≡ held x → (i : ℕ) → i < length ms
+    → ((slice_index_or ms i (record { from = 0; to = 0; size = 0 })).from ≤ 256) × ((slice_index_or ms i (record { from = 0; to = 0; size = 0 })).to ≤ 256)
+    × ((slice_index_or ms i (record { from = 0; to = 0; size = 0 })).size ≤ 1000000)
+held_good x ms e i lt = (fair_as x ms e).handled _ (in_getD ms i (record { from = 0; to = 0; size = 0 }) lt)
 
 pub held_ordered : (x : Crossings) → Ordered (held x) x.partition.order.now
 held_ordered x = subst (λ (ms : List Message). Ordered ms x.partition.order.now) (sym x.all) (ordered x.partition)

@@ -1,6 +1,6 @@
 -- Places in lists that are put together, and in what a test keeps.
-use Rattle.std.proofs.Common.{◌≡◌, ℕ, suc, ◌+◌, ◌<◌, Bool, true, List, [], ◌∷◌, ◌++◌, length, filter, sym, ap, ◌∙◌, subst, inl, inr, ⊎_elim, arith}
-use Rattle.std.proofs.lemmas.Bool.{cases_eq, cases_Bool, eq-eqb, ne_eqb, cond-true, cond-false}
+use Rattle.std.proofs.Common.{◌≡◌, ℕ, suc, ◌+◌, ◌<◌, Bool, true, false, cond, List, [], ◌∷◌, ◌++◌, length, filter, sym, refl, ap, ◌∙◌, subst, inl, inr, ⊎_elim, arith}
+use Rattle.std.proofs.lemmas.Bool.{cases_eq, eq-eqb, ne_eqb, cond-true, cond-false}
 use Rattle.chains.specs.Chains.{place}
 use Rattle.chains.specs.Lists.{In, Apart}
 
@@ -29,22 +29,18 @@ in_kept p [] b i t = absurd i
 in_kept p (x ∷ xs) b i t =
     ⊎_elim
     (λ (e : b ≡ x). subst (λ (ys : List ℕ). In b ys) (sym (cond-true (p x) (x ∷ filter p xs) (filter p xs) (subst (λ k. p k ≡ true) e t))) (inl e))
-    (λ j. ⊎_elim
-    (λ y. subst (λ (ys : List ℕ). In b ys) (sym (cond-true (p x) (x ∷ filter p xs) (filter p xs) y)) (inr (in_kept p xs b j t)))
-    (λ y. subst (λ (ys : List ℕ). In b ys) (sym (cond-false (p x) (x ∷ filter p xs) (filter p xs) y)) (in_kept p xs b j t))
-    (cases_Bool (p x)))
+    (λ j. let ih = in_kept p xs b j t in elim (p x) as (λ t. In b (cond t (x ∷ filter p xs) (filter p xs))) [ true ↦ inr ih | false ↦ ih ])
     i
 
 pub of_kept : (p : ℕ → Bool) (xs : List ℕ) (b : ℕ) → In b (filter p xs) → In b xs × (p b ≡ true)
 of_kept p [] b i = absurd i
 of_kept p (x ∷ xs) b i =
-    ⊎_elim
-    (λ y. ⊎_elim
-    (λ (e : b ≡ x). (inl e, subst (λ k. p k ≡ true) (sym e) y))
-    (λ j. let r = of_kept p xs b j in (inr r.0, r.1))
-    (subst (λ (ys : List ℕ). In b ys) (cond-true (p x) (x ∷ filter p xs) (filter p xs) y) i))
-    (λ y. let r = of_kept p xs b (subst (λ (ys : List ℕ). In b ys) (cond-false (p x) (x ∷ filter p xs) (filter p xs) y) i) in (inr r.0, r.1))
-    (cases_Bool (p x))
+    let P : Bool → Type 0 = λ t. p x ≡ t → In b (cond t (x ∷ filter p xs) (filter p xs)) → In b (x ∷ xs) × (p b ≡ true) in
+    let both : P (p x) = elim (p x) as P [
+      | true ↦ λ y j. ⊎_elim (λ (e : b ≡ x). (inl e, subst (λ k. p k ≡ true) (sym e) y)) (λ k. let r = of_kept p xs b k in (inr r.0, r.1)) j
+      | false ↦ λ y j. let r = of_kept p xs b j in (inr r.0, r.1)
+    ] in
+    both refl i
 
 -- a test keeps the order of what it keeps
 pub kept_before : (p : ℕ → Bool) (xs : List ℕ) (a b : ℕ) → p a ≡ true → p b ≡ true → place xs a < place xs b → place xs b < length xs → place (filter p xs) a < place (filter p xs) b
@@ -61,17 +57,15 @@ kept_before p (x ∷ xs) a b ta tb lt low =
     let pa = place_there x xs a na in
     let pb = place_there x xs b nb in
     let ih : place (filter p xs) a < place (filter p xs) b = kept_before p xs a b ta tb (omega arith) (omega arith) in
-    ⊎_elim
-    (λ y. subst (λ (ys : List ℕ). place ys a < place ys b) (sym (cond-true (p x) (x ∷ filter p xs) (filter p xs) y)) (omega (arith, place_there x (filter p xs) a na, place_there x (filter p xs) b nb)))
-    (λ y. subst (λ (ys : List ℕ). place ys a < place ys b) (sym (cond-false (p x) (x ∷ filter p xs) (filter p xs) y)) ih)
-    (cases_Bool (p x)))
+    elim (p x) as (λ t. place (cond t (x ∷ filter p xs) (filter p xs)) a < place (cond t (x ∷ filter p xs) (filter p xs)) b) [
+      | true ↦ omega (arith, place_there x (filter p xs) a na, place_there x (filter p xs) b nb)
+      | false ↦ ih
+    ])
     (cases_eq x b))
     (cases_eq x a)
 
 pub apart_kept : (p : ℕ → Bool) (xs : List ℕ) → Apart xs → Apart (filter p xs)
 apart_kept p [] a = tt
 apart_kept p (x ∷ xs) a =
-    ⊎_elim
-    (λ y. subst (λ (ys : List ℕ). Apart ys) (sym (cond-true (p x) (x ∷ filter p xs) (filter p xs) y)) (λ i. a.0 (of_kept p xs x i).0, apart_kept p xs a.1))
-    (λ y. subst (λ (ys : List ℕ). Apart ys) (sym (cond-false (p x) (x ∷ filter p xs) (filter p xs) y)) (apart_kept p xs a.1))
-    (cases_Bool (p x))
+    let ih = apart_kept p xs a.1 in
+    elim (p x) as (λ t. Apart (cond t (x ∷ filter p xs) (filter p xs))) [ true ↦ (λ i. a.0 (of_kept p xs x i).0, ih) | false ↦ ih ]

@@ -4,7 +4,7 @@ use Rattle.chains.specs.declared.message.Message.{Message}
 use Rattle.machine.specs.Model.{Model}
 use Rattle.partition.specs.Blocks.{block_list, messages}
 use Rattle.partition.specs.Costs.{work, critical_path, cost, level_at, step_cost, delay_at, delay_chain}
-use Rattle.partition.specs.Times.{overhead, block_time}
+use Rattle.partition.specs.Times.{overhead, times_of}
 use Rattle.partition.specs.declared.partition.Partition.{Partition}
 
 abbrev pub messages_of : Partition → List Message
@@ -17,7 +17,7 @@ abbrev pub overhead_of : Model → Partition → ℕ → ℕ
 overhead_of m p = overhead m (messages_of p)
 
 abbrev pub time_of : Model → Partition → ℕ → ℕ
-time_of m p = block_time m p.tasks.now p.blocks.now (messages_of p)
+time_of m p = times_of m p.tasks.now p.links.now p.blocks.now
 
 abbrev pub work_of : Model → Partition → ℕ
 work_of m p = work (time_of m p) (list_of p)

@@ -15,6 +15,7 @@ pub mod times;
 
 // At most 256 tasks and 1,024 links, the block of each task, which is numbered by its least task, and an order of the
 // blocks in which every message goes from an earlier to a later place. Who can prove that makes the value as it stands.
+// The blocks stand beside the tasks, and not in them: both are lent as the graph holds them.
 #[derive(Clone, Copy)]
 pub struct Partition<'a> {
     pub tasks: &'a [Task],

@@ -10,6 +10,7 @@ use chains::sums::greatest_block_sums;
 use machine::Machine;
 
 // At each block's number what the block takes on a machine, and its level there; the level is 0 at every other number.
+// Two tables, and not one of pairs: the levels are made from the times as a table.
 #[derive(Clone, Copy)]
 pub struct BlockFigures {
     pub times: [u64; 257],

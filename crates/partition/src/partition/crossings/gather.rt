@@ -10,6 +10,7 @@ use crate::partition::crossings::Crossings;
 use arrayvec::ArrayVec;
 use chains::message::Message;
 use chains::network::Network;
+use graph::limits::MAX_LINKS;
 use graph::records::Link;
 
 // The block of a task.
@@ -22,7 +23,7 @@ fn block_at(blocks: &[u32], task: u32) -> u32
 }
 
 // One message for each link that crosses, in the order of the links.
-fn gather(links: &[Link], blocks: &[u32]) -> ArrayVec<Message, 1024>
+fn gather(links: &[Link], blocks: &[u32]) -> ArrayVec<Message, MAX_LINKS>
     requires few { length links.now ≤ 1024 }
     requires joined { Joined (length blocks.now) links.now }
     ensures { result.items ≡ messages links.now blocks.now }
@@ -66,7 +67,7 @@ impl Crossings<'_> {
     }
 
     // The messages with the processing order.
-    pub(crate) fn network<'x>(&'x self) -> Network<'x>
+    pub fn network<'x>(&'x self) -> Network<'x>
         ensures messages { result.messages.now ≡ held self.now }
         ensures order { result.order.now ≡ self.now.partition.order.now }
     {

@@ -1,7 +1,6 @@
 use Rattle.std.proofs.Common.{◌≡◌, slice_index_or, rules, ℕ, refl, ◌∙◌, arith}
 use Rattle.std.proofs.lemmas.List.{length-replicate, get_or-replicate}
-use Rattle.chains.proofs.Lists.{in_getD}
-use Rattle.partition.proofs.Handling.{fair_as}
+use Rattle.partition.proofs.Handling.{fair_as, held_good}
 use Rattle.partition.proofs.Summing.{over_fits, over_fits_too, over_more, over_room}
 use Rattle.partition.proofs.partition.crossings.Crossings.overheads.Goals as goal
 
@@ -17,7 +16,7 @@ add_at-requires g c =
     let law = g.met.M.Machine.lawful c.args.machine.now in
     let f = fair_as c.args.self.now _ c.as_slice-message-items.ensures in
     let i = c.loop-message.message-index in
-    let good = f.handled _ (in_getD _ i (record { from = 0; to = 0; size = 0 }) c.loop-message-test.true) in
+    let good = held_good c.args.self.now _ c.as_slice-message-items.ensures i c.loop-message-test.true in
     let size = good.2 in
     let read : c.unwrap_or-reading.result ≡ m.reading (slice_index_or c.as_slice-message-items.result.now c.loop-message.message-index (record { from = 0; to = 0; size = 0 })).size = search rules in
     record {
@@ -31,7 +30,7 @@ add_at-requires-in-loop-message g c =
     let law = g.met.M.Machine.lawful c.args.machine.now in
     let f = fair_as c.args.self.now _ c.as_slice-message-items.ensures in
     let i = c.loop-message.message-index in
-    let good = f.handled _ (in_getD _ i (record { from = 0; to = 0; size = 0 }) c.loop-message-test.true) in
+    let good = held_good c.args.self.now _ c.as_slice-message-items.ensures i c.loop-message-test.true in
     let size = good.2 in
     let read : c.unwrap_or-reading.result ≡ m.reading (slice_index_or c.as_slice-message-items.result.now c.loop-message.message-index (record { from = 0; to = 0; size = 0 })).size = search rules in
     let written : c.unwrap_or-writing.result ≡ m.writing (slice_index_or c.as_slice-message-items.result.now c.loop-message.message-index (record { from = 0; to = 0; size = 0 })).size = search rules in
@@ -46,7 +45,7 @@ loop-message-preserved g c =
     let law = g.met.M.Machine.lawful c.args.machine.now in
     let f = fair_as c.args.self.now _ c.as_slice-message-items.ensures in
     let i = c.loop-message.message-index in
-    let good = f.handled _ (in_getD _ i (record { from = 0; to = 0; size = 0 }) c.loop-message-test.true) in
+    let good = held_good c.args.self.now _ c.as_slice-message-items.ensures i c.loop-message-test.true in
     let size = good.2 in
     let read : c.unwrap_or-reading.result ≡ m.reading (slice_index_or c.as_slice-message-items.result.now c.loop-message.message-index (record { from = 0; to = 0; size = 0 })).size = search rules in
     let written : c.unwrap_or-writing.result ≡ m.writing (slice_index_or c.as_slice-message-items.result.now c.loop-message.message-index (record { from = 0; to = 0; size = 0 })).size = search rules in

@@ -1,14 +1,13 @@
 // Dividing: the earliest cheapest of the partitions that are met.
 ghost use Rattle.std.specs.Prelude.{◌≡◌, ◌≤◌, length, MatchOption};
 ghost use Rattle.partition.specs.Blocks.{block_list};
-ghost use Rattle.joining.specs.Outcomes.{blocks_in, order_in};
-ghost use Rattle.partition.specs.Sorted.{Sorted};
+ghost use Rattle.joining.specs.Outcomes.{blocks_in};
 ghost use Rattle.dividing.specs.Choosing.{cheaper};
 ghost use Rattle.dividing.specs.Dividing.{met};
 ghost use Rattle.dividing.specs.Kept.{Kept};
 ghost use Rattle.dividing.specs.Laws.{MetRightly, Divides};
 ghost use Rattle.dividing.specs.Next.{NextMet};
-ghost use Rattle.dividing.specs.Views.{net_of, blocks_of};
+ghost use Rattle.dividing.specs.Views.{net_of, blocks_of, Regroups};
 
 use crate::divided::Divided;
 use crate::step::step;
@@ -26,7 +25,7 @@ fn cheaper(kept: Option<Divided>, more: Divided) -> Divided
 
 // What is met after other blocks of a partition's tasks; nothing where no more than one block is left.
 fn after<M: Machine>(partition: &Partition<'_>, present: &Joined, machine: &M) -> Option<Divided>
-    requires sorted { Sorted (length partition.now.tasks.now) partition.now.links.now (blocks_in present.now) (order_in present.now) }
+    requires sorted { Regroups partition.now present.now }
     ensures { MatchOption result (length (block_list (blocks_in present.now)) ≤ 1) (NextMet (M.meaning machine.now) (net_of partition.now) (blocks_in present.now)) }
 {
     step(&in_blocks(partition, present), machine)

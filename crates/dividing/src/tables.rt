@@ -1,10 +1,9 @@
 // The blocks of a partition held apart from it, and a partition's tasks and links in such blocks.
 ghost use Rattle.std.specs.Prelude.{◌≡◌, ◌≤◌, length};
 ghost use Rattle.joining.specs.Outcomes.{blocks_in, order_in};
-ghost use Rattle.partition.specs.Sorted.{Sorted};
 ghost use Rattle.dividing.specs.Dividing.{cost_of};
 ghost use Rattle.dividing.specs.Tables.{Tables};
-ghost use Rattle.dividing.specs.Views.{net_of};
+ghost use Rattle.dividing.specs.Views.{net_of, Regroups};
 
 use arrayvec::ArrayVec;
 use joining::joined::Joined;
@@ -35,7 +34,7 @@ pub(crate) fn in_tables(partition: &Partition<'_>) -> Joined
 
 // The tasks and links of a partition in other blocks.
 pub(crate) fn in_blocks<'a>(partition: &Partition<'a>, joined: &'a Joined) -> Partition<'a>
-    requires sorted { Sorted (length partition.now.tasks.now) partition.now.links.now (blocks_in joined.now) (order_in joined.now) }
+    requires sorted { Regroups partition.now joined.now }
     ensures net { net_of result ≡ net_of partition.now }
     ensures blocks { result.blocks.now ≡ blocks_in joined.now }
 {
@@ -51,7 +50,7 @@ pub(crate) fn in_blocks<'a>(partition: &Partition<'a>, joined: &'a Joined) -> Pa
 
 // What they cost in other blocks.
 pub(crate) fn cost_in<M: Machine>(partition: &Partition<'_>, joined: &Joined, machine: &M) -> u64
-    requires sorted { Sorted (length partition.now.tasks.now) partition.now.links.now (blocks_in joined.now) (order_in joined.now) }
+    requires sorted { Regroups partition.now joined.now }
     ensures { result ≡ cost_of (M.meaning machine.now) (net_of partition.now) (blocks_in joined.now) }
 {
     in_blocks(partition, joined).cost(machine)

@@ -67,7 +67,7 @@ impl Crossings<'_> {
     }
 
     // The messages with the processing order.
-    pub fn network<'x>(&'x self) -> Network<'x>
+    pub fn network(&self) -> Network<'_>
         ensures messages { result.messages.now ≡ held self.now }
         ensures order { result.order.now ≡ self.now.partition.order.now }
     {

@@ -1,5 +1,5 @@
 // The lists of links in job words, and their times, tested before the graph is touched.
-ghost use Rattle.std.specs.Prelude.{◌≡◌, ℕ, ◌≤◌, Bool, [], ◌∷◌};
+ghost use Rattle.std.specs.Prelude.{◌≡◌, ℕ, Bool, [], ◌∷◌};
 ghost use Rattle.graph.specs.Calls.{first_of};
 ghost use Rattle.words.specs.declared.refusal.ReadRefusal.{ReadRefusal};
 ghost use Rattle.words.specs.Reading.{at_first, list_rows, verdict};
@@ -18,7 +18,6 @@ fn refuse_first<F: Fn(usize) -> bool, R: Fn(usize) -> ReadRefusal>(
     holds: F,
     refusal: R,
 ) -> Result<(), ReadRefusal>
-    requires few { count ≤ 1024 }
     requires tests { Takes (F.pre holds) count }
     requires refuses { Takes (R.pre refusal) count }
     ensures { (test : ℕ → Bool) (why : ℕ → ReadRefusal) → Tells (F.post holds) count test → Tells (R.post refusal) count why → result ≡ verdict (first_of (at_first test count why ∷ [])) }

@@ -47,14 +47,14 @@ impl Pair<'_, '_> {
     fn is_before(&self, block: u32) -> bool
         ensures { result ≡ before self.now block }
     {
-        !self.takes_in(block) && self.is_led_to_from(block)
+        self.is_led_to_from(block) && !self.takes_in(block)
     }
 
     // Whether it stands behind the union.
     fn is_behind(&self, block: u32) -> bool
         ensures { result ≡ behind self.now block }
     {
-        !self.takes_in(block) && !self.is_led_to_from(block)
+        !(self.is_led_to_from(block) || self.takes_in(block))
     }
 
     // The least number of a block of the union.

@@ -52,15 +52,19 @@ bus_delay f a b s = rack_delay bus_steps f a b s
 abbrev pub cube_delay : Figures → ℕ → ℕ → ℕ → ℕ
 cube_delay f a b s = rack_delay cube_steps f a b s
 
--- a rack of p processors with these steps between them, and all times by its figures
-abbrev pub rack_model : (ℕ → ℕ → ℕ) → ℕ → Figures → Model
-rack_model steps p f = record {
+-- a machine of p processors with this delay, and all other times by its figures
+abbrev pub figured : ℕ → (ℕ → ℕ → ℕ → ℕ) → Figures → Model
+figured p delay f = record {
   processors = p;
-  delay = rack_delay steps f;
+  delay = delay;
   startup = f.startup;
   reading = λ s. reading_time f s;
   writing = λ s. writing_time f s;
 }
+
+-- a rack of p processors with these steps between them
+abbrev pub rack_model : (ℕ → ℕ → ℕ) → ℕ → Figures → Model
+rack_model steps p f = figured p (rack_delay steps f) f
 
 abbrev pub bus_model : ℕ → Figures → Model
 bus_model p f = rack_model bus_steps p f

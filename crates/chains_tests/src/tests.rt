@@ -3,14 +3,13 @@
 ghost use Rattle.std.specs.Prelude.{Decides};
 ghost use Rattle.chains.specs.Chains.{Ordered};
 
-use std::array;
-
 use crate::count::count_chains;
 use chains::message::Message;
 use chains::network::Network;
 use chains::network::checked::is_processing_order;
 use chains::reach::{reach_rows, reaches};
 use chains::sums::{greatest_block_sums, greatest_step_sums};
+use std::array;
 
 // What the figures say of a shape. Before a question each number is 9, and each flag false.
 #[derive(Clone, Copy)]

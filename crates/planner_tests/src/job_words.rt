@@ -20,7 +20,10 @@ fn refused(
         return Err(Fail::new("the words were accepted"));
     };
     assert_eq!(rt; (why.number(), why.place()), at);
-    assert_eq!(rt; why.below().map(|lower| (lower.number(), lower.place())), below);
+    assert_eq!(rt;
+        why.below().map(|lower| (lower.number(), lower.place())),
+        below
+    );
     Ok(())
 }
 

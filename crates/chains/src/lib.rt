@@ -3,7 +3,9 @@
 
 pub mod best;
 pub mod figure;
+pub mod limits;
 pub mod message;
 pub mod network;
 pub mod reach;
 pub mod sums;
+pub mod table;

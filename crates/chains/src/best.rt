@@ -1,6 +1,6 @@
 //! The best over all chains from each block: one run for every figure.
 
-ghost use Rattle.std.specs.Prelude.{◌≡◌, ℕ, ◌<◌, ◌≤◌, map, length, fold, None, Decides, slice_index, slice_index_or, slice_set};
+ghost use Rattle.std.specs.Prelude.{◌≡◌, ℕ, ◌<◌, ◌≤◌, map, length, fold, None, Some, Decides, slice_index, slice_index_or, slice_set};
 ghost use Rattle.chains.specs.Lists.{In};
 ghost use Rattle.chains.specs.Chains.{successors, Enumerates, Ordered};
 ghost use Rattle.chains.specs.Figures.{BestAtEach};
@@ -10,7 +10,6 @@ use crate::figure::ChainFigure;
 use crate::limits::{MAX_MESSAGES, NUMBERS};
 use crate::message::Message;
 use crate::network::Network;
-use std::mem;
 
 /// The messages by sender: for each block its last message, and for each message the one before it from that block.
 // lists by number in two tables: a planning loop may use no heap, and one pass over the messages fills them
@@ -52,12 +51,12 @@ impl<'a> BySender<'a> {
         figure: &F,
         block: u32,
         best: &[F::Value; NUMBERS],
-        met: &mut [u32; NUMBERS],
+        met: &mut [Option<u32>; NUMBERS],
     ) -> F::Value
         requires within { block ≤ 256 }
-        requires fresh { (s : ℕ) → slice_index met.now s ≡ block → ⊥ }
+        requires fresh { (s : ℕ) → slice_index_or met.now s None ≡ Some block → ⊥ }
         ensures value { (d : F.Value) → result ≡ fold (F.meaning figure.now).better ((F.meaning figure.now).alone block) (map (λ s. (F.meaning figure.now).extended block s (slice_index_or best.now s d)) (successors self.now.messages.now block)) }
-        ensures others { (s : ℕ) → (slice_index met.new s ≡ block → ⊥) → slice_index met.new s ≡ slice_index met.old s }
+        ensures others { (s : ℕ) → (slice_index_or met.new s None ≡ Some block → ⊥) → slice_index_or met.new s None ≡ slice_index_or met.old s None }
     {
         let messages = self.messages;
         let mut found = figure.alone(block);
@@ -89,13 +88,13 @@ fn better_through<F: ChainFigure>(
 }
 
 /// Whether `block` was last met from another than `from`; afterwards it is met from `from`.
-fn first_time(met: &mut [u32; NUMBERS], block: u32, from: u32) -> bool
+fn first_time(met: &mut [Option<u32>; NUMBERS], block: u32, from: u32) -> bool
     requires { block ≤ 256 }
-    ensures new { Decides result (slice_index met.old block ≡ from → ⊥) }
-    ensures after { met.new ≡ slice_set met.old block from }
+    ensures new { Decides result (slice_index_or met.old block None ≡ Some from → ⊥) }
+    ensures after { met.new ≡ slice_set met.old block (Some from) }
 {
-    let last = mem::replace(&mut met[block as usize], from);
-    last != from
+    let last = met[block as usize].replace(from);
+    last != Some(from)
 }
 
 /// The best over all chains from each block of a good order, from its last block to its first.
@@ -110,7 +109,7 @@ fn best_over<F: ChainFigure>(
     ensures chains { (b : ℕ) → In b order.now → Enumerates messages.now (length order.now) b }
 {
     let links = BySender::gather(messages);
-    let mut met = [0; NUMBERS]; // no block
+    let mut met = [None; NUMBERS];
     for block in order.iter().rev() {
         let value = links.best_from(figure, *block, best, &mut met);
         best[*block as usize] = value;

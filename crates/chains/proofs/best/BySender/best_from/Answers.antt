@@ -62,7 +62,7 @@ loop-at-preserved g c =
     let small : to < 257 = omega arith in
     let value : g.row.F-Value.Denot → List ℕ → g.row.F-Value.Denot = λ d ss. fold f.better (f.alone b) (map (λ s. f.extended b s (get_or c.args.best.now s d)) ss) in
     let so_far : (d : g.row.F-Value.Denot) → c.loop-at.found ≡ value d S = λ d. c.loop-at.invariant.1 d ∙ ap (λ p. value d (successors (drop (upto p) ms) b)) is in
-    let Q : List ℕ → Type 0 = λ m. Walked ms b before at' m in
+    let Q : List (Option ℕ) → Type 0 = λ m. Walked ms b before at' m in
     elim c.if-first_time.branch [
       | then-first_time x ↦
           let new : has to S ≡ false = never (has to S) (w.marked to small) (c.first_time.ensures.new.0 x.if-first_time.true) in (

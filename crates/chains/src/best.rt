@@ -34,6 +34,7 @@ impl<'a> BySender<'a> {
     {
         let mut head = [None; NUMBERS];
         let mut next = [None; MAX_MESSAGES];
+        // `next[i]` and no `zip` with `iter_mut`: an invariant would have no term for the table that it writes
         for (i, m) in messages.iter().enumerate() {
             next[i] = head[m.from as usize].replace(i as u16);
         }

@@ -54,6 +54,7 @@ impl ChainFigure for ReachRow {
     }
 
     fn better(&self, a: [bool; NUMBERS], b: [bool; NUMBERS]) -> [bool; NUMBERS] {
+        // `b[i]` and no `zip`, tried: the invariant of a loop over `iter_mut().zip(..)` has no term for the row that it writes
         let mut row = a;
         for (i, entry) in row.iter_mut().enumerate() {
             *entry |= b[i];

@@ -80,19 +80,19 @@ skipped ms b (suc i) l = ⊎_elim
 
 -- the walk along the messages of b has come down to `at`: the successors met are those that `met` has at b, and
 -- what it has at another stood in `before`
-pub record Walked (ms : List Message) (b : ℕ) (before : List ℕ) (at : Option ℕ) (met : List ℕ) : Type 0 where
+pub record Walked (ms : List Message) (b : ℕ) (before : List (Option ℕ)) (at : Option ℕ) (met : List (Option ℕ)) : Type 0 where
   pub inside : upto at ≤ length ms
   pub own : at ≡ latest ms b (upto at)
   pub wide : length met ≡ 257
-  pub marked : (s : ℕ) → s < 257 → Decides (has s (successors (drop (upto at) ms) b)) (get_or met s 0 ≡ b)
-  pub others : (s : ℕ) → (get_or met s 0 ≡ b → ⊥) → get_or met s 0 ≡ get_or before s 0
+  pub marked : (s : ℕ) → s < 257 → Decides (has s (successors (drop (upto at) ms) b)) (get_or met s None ≡ Some b)
+  pub others : (s : ℕ) → (get_or met s None ≡ Some b → ⊥) → get_or met s None ≡ get_or before s None
 
-module _ (ms : List Message) (b : ℕ) (before : List ℕ) where
+module _ (ms : List Message) (b : ℕ) (before : List (Option ℕ)) where
   -- before the walk nothing is met
   pub none_met : (at : Option ℕ) → at ≡ latest ms b (length ms) → successors (drop (upto at) ms) b ≡ []
   none_met at e = ap (λ p. successors (drop (upto p) ms) b) e ∙ skipped ms b (length ms) (omega arith) ∙ ap (λ l. successors l b) (drop_all (length ms) ms (omega arith))
 
-  pub walked_none : (at : Option ℕ) → at ≡ latest ms b (length ms) → length before ≡ 257 → ((s : ℕ) → get_or before s 0 ≡ b → ⊥) → Walked ms b before at before
+  pub walked_none : (at : Option ℕ) → at ≡ latest ms b (length ms) → length before ≡ 257 → ((s : ℕ) → get_or before s None ≡ Some b → ⊥) → Walked ms b before at before
   walked_none at e wide fresh =
       let l : upto (latest ms b (length ms)) ≤ length ms = latest_le ms b (length ms) in
       let u : upto at ≡ upto (latest ms b (length ms)) = ap upto e in
@@ -129,43 +129,43 @@ module _ (ms : List Message) (b : ℕ) (before : List ℕ) where
         let le : upto (latest ms b i) ≤ i = latest_le ms b i in
         (omega arith, e' ∙ latest_again ms b i ∙ ap (λ p. latest ms b (upto p)) (sym e'))
 
-  pub walked_new : (i : ℕ) (at' : Option ℕ) (met : List ℕ) → i < length ms → (message_at ms i).to < 257 → at' ≡ latest ms (message_at ms i).from i
+  pub walked_new : (i : ℕ) (at' : Option ℕ) (met : List (Option ℕ)) → i < length ms → (message_at ms i).to < 257 → at' ≡ latest ms (message_at ms i).from i
       → Walked ms b before (Some i) met → has (message_at ms i).to (successors (drop (suc i) ms) b) ≡ false
-      → Walked ms b before at' (set met (message_at ms i).to b)
+      → Walked ms b before at' (set met (message_at ms i).to (Some b))
   walked_new i at' met l within e w n =
       let to = (message_at ms i).to in
       let S = successors (drop (suc i) ms) b in
       let p = on i at' l w.own e in
       let wide : length met ≡ 257 = w.wide in
       let next = met_new i at' l w.own e n in
-      let here : get_or (set met to b) to 0 ≡ b = get_or-set_same met to b 0 (omega arith) in
+      let here : get_or (set met to (Some b)) to None ≡ Some b = get_or-set_same met to (Some b) None (omega arith) in
       record {
         inside = p.0;
         own = p.1;
         wide = simp length-set w.wide;
         marked = λ s h. ⊎_elim
-            (λ (q : s ≡ to). let P : ℕ → Type 0 = λ x. Decides (has x (successors (drop (upto at') ms) b)) (get_or (set met to b) x 0 ≡ b) in
+            (λ (q : s ≡ to). let P : ℕ → Type 0 = λ x. Decides (has x (successors (drop (upto at') ms) b)) (get_or (set met to (Some b)) x None ≡ Some b) in
             subst P (sym q) (λ _. here, λ _. ap (has to) next ∙ or_left (eqb to to) (has to S) (eq-eqb to to refl)))
             (λ (q : s ≡ to → ⊥).
             let same : has s (successors (drop (upto at') ms) b) ≡ has s S = ap (has s) next ∙ ap (λ x. x || has s S) (ne_eqb s to q) in
-            let kept : get_or (set met to b) s 0 ≡ get_or met s 0 = get_or-set_other met to s b 0 q in
+            let kept : get_or (set met to (Some b)) s None ≡ get_or met s None = get_or-set_other met to s (Some b) None q in
             (λ t. kept ∙ (w.marked s h).0 (sym same ∙ t), λ t. same ∙ (w.marked s h).1 (sym kept ∙ t)))
             (cases_eq s to);
         others = λ s new. ⊎_elim
-            (λ (t : s ≡ to). absurd (new (ap (λ x. get_or (set met to b) x 0) t ∙ here)))
-            (λ (t : s ≡ to → ⊥). let kept : get_or (set met to b) s 0 ≡ get_or met s 0 = get_or-set_other met to s b 0 t in kept ∙ w.others s (λ e. new (kept ∙ e)))
+            (λ (t : s ≡ to). absurd (new (ap (λ x. get_or (set met to (Some b)) x None) t ∙ here)))
+            (λ (t : s ≡ to → ⊥). let kept : get_or (set met to (Some b)) s None ≡ get_or met s None = get_or-set_other met to s (Some b) None t in kept ∙ w.others s (λ e. new (kept ∙ e)))
             (cases_eq s to);
       }
 
-  pub walked_old : (i : ℕ) (at' : Option ℕ) (met : List ℕ) → i < length ms → (message_at ms i).to < 257 → at' ≡ latest ms (message_at ms i).from i
+  pub walked_old : (i : ℕ) (at' : Option ℕ) (met : List (Option ℕ)) → i < length ms → (message_at ms i).to < 257 → at' ≡ latest ms (message_at ms i).from i
       → Walked ms b before (Some i) met → has (message_at ms i).to (successors (drop (suc i) ms) b) ≡ true
-      → Walked ms b before at' (set met (message_at ms i).to b)
+      → Walked ms b before at' (set met (message_at ms i).to (Some b))
   walked_old i at' met l within e w n =
       let to = (message_at ms i).to in
       let p = on i at' l w.own e in
-      let there : get_or met to 0 ≡ b = (w.marked to within).0 n in
-      let same : set met to b ≡ met = ap (set met to) (sym there) ∙ set-get_or met to 0 in
-      let P : List ℕ → Type 0 = λ x. Walked ms b before at' x in
+      let there : get_or met to None ≡ Some b = (w.marked to within).0 n in
+      let same : set met to (Some b) ≡ met = ap (set met to) (sym there) ∙ set-get_or met to None in
+      let P : List (Option ℕ) → Type 0 = λ x. Walked ms b before at' x in
       subst P (sym same) (record {
         inside = p.0;
         own = p.1;

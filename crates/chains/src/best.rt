@@ -1,43 +1,44 @@
 //! The best over all chains from each block: one run for every figure.
 
-ghost use Rattle.std.specs.Prelude.{◌≡◌, ℕ, ◌<◌, ◌≤◌, map, length, fold, None, Decides, slice_index, slice_index_or, slice_set};
+ghost use Rattle.std.specs.Prelude.{◌≡◌, ℕ, ◌<◌, ◌≤◌, map, length, fold, None, Some, Decides, slice_index, slice_index_or, slice_set};
 ghost use Rattle.chains.specs.Lists.{In};
 ghost use Rattle.chains.specs.Chains.{successors, Enumerates, Ordered};
 ghost use Rattle.chains.specs.Figures.{BestAtEach};
 ghost use Rattle.chains.specs.Links.{latest, message_at};
 
 use crate::figure::ChainFigure;
+use crate::limits::{MAX_MESSAGES, NUMBERS};
 use crate::message::Message;
 use crate::network::Network;
-use std::mem;
 
 /// The messages by sender: for each block its last message, and for each message the one before it from that block.
 // lists by number in two tables: a planning loop may use no heap, and one pass over the messages fills them
 #[derive(Clone, Copy)]
-struct Links<'a> {
+struct BySender<'a> {
     messages: &'a [Message],
-    head: [Option<u16>; 257],
-    next: [Option<u16>; 1024],
+    head: [Option<u16>; NUMBERS],
+    next: [Option<u16>; MAX_MESSAGES],
     ghost few: { length messages.now ≤ 1024 },
     ghost receivers: { (i : ℕ) → i < length messages.now → (message_at messages.now i).to ≤ 256 },
     ghost heads: { (b : ℕ) → b < 257 → slice_index_or head b None ≡ latest messages.now b (length messages.now) },
     ghost nexts: { (i : ℕ) → i < length messages.now → slice_index_or next i None ≡ latest messages.now (message_at messages.now i).from i },
 }
 
-impl<'a> Links<'a> {
+impl<'a> BySender<'a> {
     /// Gathers the messages by sender.
     #[tactic(auto, using(crate::proofs::Links::gathered_more))]
-    fn gather(messages: &'a [Message]) -> Links<'a>
+    fn gather(messages: &'a [Message]) -> BySender<'a>
         requires few { length messages.now ≤ 1024 }
         requires ends { (i : ℕ) → i < length messages.now → ((message_at messages.now i).from ≤ 256) × ((message_at messages.now i).to ≤ 256) }
         ensures { result.messages.now ≡ messages.now }
     {
-        let mut head = [None; 257];
-        let mut next = [None; 1024];
+        let mut head = [None; NUMBERS];
+        let mut next = [None; MAX_MESSAGES];
+        // `next[i]` and no `zip` with `iter_mut`: an invariant would have no term for the table that it writes
         for (i, m) in messages.iter().enumerate() {
             next[i] = head[m.from as usize].replace(i as u16);
         }
-        Links {
+        BySender {
             messages,
             head,
             next,
@@ -50,23 +51,24 @@ impl<'a> Links<'a> {
         &self,
         figure: &F,
         block: u32,
-        best: &[F::Value; 257],
-        met: &mut [u32; 257],
+        best: &[F::Value; NUMBERS],
+        met: &mut [Option<u32>; NUMBERS],
     ) -> F::Value
         requires within { block ≤ 256 }
-        requires fresh { (s : ℕ) → slice_index met.now s ≡ block → ⊥ }
+        requires fresh { (s : ℕ) → slice_index_or met.now s None ≡ Some block → ⊥ }
         ensures value { (d : F.Value) → result ≡ fold (F.meaning figure.now).better ((F.meaning figure.now).alone block) (map (λ s. (F.meaning figure.now).extended block s (slice_index_or best.now s d)) (successors self.now.messages.now block)) }
-        ensures others { (s : ℕ) → (slice_index met.new s ≡ block → ⊥) → slice_index met.new s ≡ slice_index met.old s }
+        ensures others { (s : ℕ) → (slice_index_or met.new s None ≡ Some block → ⊥) → slice_index_or met.new s None ≡ slice_index_or met.old s None }
     {
         let messages = self.messages;
         let mut found = figure.alone(block);
         let mut at = self.head[block as usize];
         while let Some(i) = at {
-            let to = messages[i as usize].to;
+            let place = usize::from(i);
+            let to = messages[place].to;
             if first_time(met, to, block) {
                 found = better_through(figure, found, block, to, best);
             }
-            at = self.next[i as usize];
+            at = self.next[place];
         }
         found
     }
@@ -78,7 +80,7 @@ fn better_through<F: ChainFigure>(
     found: F::Value,
     block: u32,
     to: u32,
-    best: &[F::Value; 257],
+    best: &[F::Value; NUMBERS],
 ) -> F::Value
     requires { to ≤ 256 }
     ensures { (d : F.Value) → result ≡ (F.meaning figure.now).better found ((F.meaning figure.now).extended block to (slice_index_or best.now to d)) }
@@ -87,13 +89,13 @@ fn better_through<F: ChainFigure>(
 }
 
 /// Whether `block` was last met from another than `from`; afterwards it is met from `from`.
-fn first_time(met: &mut [u32; 257], block: u32, from: u32) -> bool
+fn first_time(met: &mut [Option<u32>; NUMBERS], block: u32, from: u32) -> bool
     requires { block ≤ 256 }
-    ensures new { Decides result (slice_index met.old block ≡ from → ⊥) }
-    ensures after { met.new ≡ slice_set met.old block from }
+    ensures new { Decides result (slice_index_or met.old block None ≡ Some from → ⊥) }
+    ensures after { met.new ≡ slice_set met.old block (Some from) }
 {
-    let last = mem::replace(&mut met[block as usize], from);
-    last != from
+    let last = met[block as usize].replace(from);
+    last != Some(from)
 }
 
 /// The best over all chains from each block of a good order, from its last block to its first.
@@ -101,14 +103,14 @@ fn best_over<F: ChainFigure>(
     figure: &F,
     messages: &[Message],
     order: &[u32],
-    best: &mut [F::Value; 257],
+    best: &mut [F::Value; NUMBERS],
 )
     requires { Ordered messages.now order.now }
     ensures bests { BestAtEach (F.meaning figure.now) messages.now order.now best.old best.new }
     ensures chains { (b : ℕ) → In b order.now → Enumerates messages.now (length order.now) b }
 {
-    let links = Links::gather(messages);
-    let mut met = [0; 257]; // no block
+    let links = BySender::gather(messages);
+    let mut met = [None; NUMBERS];
     for block in order.iter().rev() {
         let value = links.best_from(figure, *block, best, &mut met);
         best[*block as usize] = value;
@@ -117,7 +119,7 @@ fn best_over<F: ChainFigure>(
 
 /// For each block of the order, the best over all chains that begin with it, each chain once; every other entry
 /// of `best` stays as it was. One pass over the messages and one over the order.
-pub fn best_from_each<F: ChainFigure>(figure: &F, network: &Network, best: &mut [F::Value; 257])
+pub fn best_from_each<F: ChainFigure>(figure: &F, network: &Network, best: &mut [F::Value; NUMBERS])
     ensures bests { BestAtEach (F.meaning figure.now) network.now.messages.now network.now.order.now best.old best.new }
     ensures chains { (b : ℕ) → In b network.now.order.now → Enumerates network.now.messages.now (length network.now.order.now) b }
 {

@@ -5,10 +5,11 @@ ghost use Rattle.chains.specs.Reach.{ReachedAtEach, RowsAtEach, reach, reach_law
 
 use crate::best::best_from_each;
 use crate::figure::ChainFigure;
+use crate::limits::NUMBERS;
 use crate::network::Network;
 
 /// Whether a chain contains the goal.
-#[derive(Clone, Copy)]
+#[derive(Clone, Copy, Debug, PartialEq, Eq)]
 pub struct Reach {
     pub goal: u32,
 }
@@ -34,25 +35,26 @@ impl ChainFigure for Reach {
 }
 
 /// For all goals at once, whether a chain contains them: a row with an entry for each block number.
-#[derive(Clone, Copy)]
+#[derive(Clone, Copy, Debug, PartialEq, Eq)]
 pub struct ReachRow;
 
 impl ChainFigure for ReachRow {
-    type Value = [bool; 257];
+    type Value = [bool; NUMBERS];
 
     ghost meaning = { λ f. reach_row };
 
     ghost laws = { λ f. row_laws };
 
-    fn alone(&self, block: u32) -> [bool; 257] {
-        with_block([false; 257], block)
+    fn alone(&self, block: u32) -> [bool; NUMBERS] {
+        with_block([false; NUMBERS], block)
     }
 
-    fn extend(&self, from: u32, _to: u32, v: [bool; 257]) -> [bool; 257] {
+    fn extend(&self, from: u32, _to: u32, v: [bool; NUMBERS]) -> [bool; NUMBERS] {
         with_block(v, from)
     }
 
-    fn better(&self, a: [bool; 257], b: [bool; 257]) -> [bool; 257] {
+    fn better(&self, a: [bool; NUMBERS], b: [bool; NUMBERS]) -> [bool; NUMBERS] {
+        // `b[i]` and no `zip`, tried: the invariant of a loop over `iter_mut().zip(..)` has no term for the row that it writes
         let mut row = a;
         for (i, entry) in row.iter_mut().enumerate() {
             *entry |= b[i];
@@ -62,19 +64,20 @@ impl ChainFigure for ReachRow {
 }
 
 /// The row with the block's entry true.
-fn with_block(mut row: [bool; 257], block: u32) -> [bool; 257]
+fn with_block(mut row: [bool; NUMBERS], block: u32) -> [bool; NUMBERS]
     ensures { result ≡ slice_set row block true }
 {
     // by the index: of what stands in an array after `get_mut` a proof knows nothing
-    if block < 257 {
-        row[block as usize] = true;
+    let place = block as usize;
+    if place < NUMBERS {
+        row[place] = true;
     }
     row
 }
 
 /// For each block of the order, whether some chain that begins with it contains the goal. Every other entry stays as it was.
 #[tactic(auto, using(crate::proofs::Reached::reached_at_each))]
-pub fn reaches(network: &Network, goal: u32, reached: &mut [bool; 257])
+pub fn reaches(network: &Network, goal: u32, reached: &mut [bool; NUMBERS])
     ensures { ReachedAtEach network.now.messages.now network.now.order.now goal reached.old reached.new }
 {
     best_from_each(&Reach { goal }, network, reached);
@@ -83,7 +86,7 @@ pub fn reaches(network: &Network, goal: u32, reached: &mut [bool; 257])
 /// For each block of the order and each number, whether some chain that begins with the block contains the number.
 /// Every other row stays as it was.
 #[tactic(auto, using(crate::proofs::Reached::rows_at_each))]
-pub fn reach_rows(network: &Network, rows: &mut [[bool; 257]; 257])
+pub fn reach_rows(network: &Network, rows: &mut [[bool; NUMBERS]; NUMBERS])
     ensures { RowsAtEach network.now.messages.now network.now.order.now rows.old rows.new }
 {
     best_from_each(&ReachRow, network, rows);

@@ -6,12 +6,14 @@ ghost use Rattle.chains.specs.Sums.{GreatestAtEach, SmallCosts, SmallTimes, cost
 
 use crate::best::best_from_each;
 use crate::figure::ChainFigure;
+use crate::limits::NUMBERS;
 use crate::network::Network;
+use crate::table::{entry, step_place};
 
 /// The sum of the times of a chain's blocks, where the greater is better.
 #[derive(Clone, Copy)]
 pub struct BlockSums<'a> {
-    pub times: &'a [u64; 257],
+    pub times: &'a [u64; NUMBERS],
 }
 
 impl<'a> ChainFigure for BlockSums<'a> {
@@ -23,13 +25,11 @@ impl<'a> ChainFigure for BlockSums<'a> {
 
     fn alone(&self, block: u32) -> u64 {
         let times = self.times;
-        times.get(block as usize).copied().unwrap_or(0)
+        entry(times, block as usize)
     }
 
     fn extend(&self, from: u32, _to: u32, v: u64) -> u64 {
-        let times = self.times;
-        let time = times.get(from as usize).copied().unwrap_or(0);
-        time.saturating_add(v)
+        self.alone(from).saturating_add(v)
     }
 
     fn better(&self, a: u64, b: u64) -> u64 {
@@ -37,8 +37,8 @@ impl<'a> ChainFigure for BlockSums<'a> {
     }
 }
 
-/// The sum of the costs of a chain's steps, where the greater is better. The cost of the step from p to q stands
-/// at p * 257 + q; past the end of the table a step costs nothing.
+/// The sum of the costs of a chain's steps, where the greater is better. The cost of a step stands at its
+/// `step_place`; past the end of the table a step costs nothing.
 #[derive(Clone, Copy)]
 pub struct StepSums<'a> {
     pub costs: &'a [u64],
@@ -56,9 +56,7 @@ impl<'a> ChainFigure for StepSums<'a> {
     }
 
     fn extend(&self, from: u32, to: u32, v: u64) -> u64 {
-        let i = from as usize * 257 + to as usize;
-        let cost = self.costs.get(i).copied().unwrap_or(0);
-        cost.saturating_add(v)
+        entry(self.costs, step_place(from, to)).saturating_add(v)
     }
 
     fn better(&self, a: u64, b: u64) -> u64 {
@@ -69,7 +67,7 @@ impl<'a> ChainFigure for StepSums<'a> {
 /// For each block of the order, the greatest sum of block times over the chains that begin with it, no more than
 /// fits a u64; where every time is below 2^56, that is the greatest sum itself. Every other entry stays as it was.
 #[tactic(auto, using(crate::proofs::Greatest::block_sums_at_each))]
-pub fn greatest_block_sums(network: &Network, times: &[u64; 257], greatest: &mut [u64; 257])
+pub fn greatest_block_sums(network: &Network, times: &[u64; NUMBERS], greatest: &mut [u64; NUMBERS])
     ensures { GreatestAtEach (total (time_in times.now)) (SmallTimes network.now.order.now (time_in times.now)) network.now.messages.now network.now.order.now greatest.old greatest.new }
 {
     best_from_each(&BlockSums { times }, network, greatest);
@@ -78,7 +76,7 @@ pub fn greatest_block_sums(network: &Network, times: &[u64; 257], greatest: &mut
 /// For each block of the order, the greatest sum of step costs over the chains that begin with it, no more than
 /// fits a u64; where every step costs less than 2^56, that is the greatest sum itself. Every other entry stays as it was.
 #[tactic(auto, using(crate::proofs::Greatest::step_sums_at_each))]
-pub fn greatest_step_sums(network: &Network, costs: &[u64], greatest: &mut [u64; 257])
+pub fn greatest_step_sums(network: &Network, costs: &[u64], greatest: &mut [u64; NUMBERS])
     ensures { GreatestAtEach (steps_total (cost_in costs.now)) (SmallCosts network.now.messages.now (cost_in costs.now)) network.now.messages.now network.now.order.now greatest.old greatest.new }
 {
     best_from_each(&StepSums { costs }, network, greatest);

@@ -8,7 +8,7 @@ use chains::figure::ChainFigure;
 use chains::network::Network;
 
 /// Each chain counts one, modulo 2^64.
-#[derive(Clone, Copy)]
+#[derive(Clone, Copy, Debug, PartialEq, Eq)]
 pub struct Count;
 
 impl ChainFigure for Count {

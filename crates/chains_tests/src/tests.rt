@@ -31,7 +31,8 @@ fn unasked() -> Found {
     }
 }
 
-// Asks every figure, where the order is good.
+// Asks every figure, where the order is good. It fills what is lent, and answers no `Option<Found>`: a test reads that a
+// refused question leaves `found` as it was.
 fn asked<'x>(
     messages: &'x [Message],
     order: &'x [u32],

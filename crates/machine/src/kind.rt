@@ -23,7 +23,7 @@ pub trait Kind {
 }
 
 // A bus: one step between any two different processors.
-#[derive(Clone, Copy)]
+#[derive(Clone, Copy, Debug, PartialEq, Eq)]
 pub struct BusKind;
 
 impl Kind for BusKind {
@@ -43,7 +43,7 @@ impl Kind for BusKind {
 }
 
 // A cube: a step for each bit in which two processor numbers differ.
-#[derive(Clone, Copy)]
+#[derive(Clone, Copy, Debug, PartialEq, Eq)]
 pub struct CubeKind;
 
 impl Kind for CubeKind {

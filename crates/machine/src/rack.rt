@@ -26,7 +26,7 @@ pub type Bus = Rack<BusKind>;
 // A cube: a delay for each bit in which two processor numbers differ.
 pub type Cube = Rack<CubeKind>;
 
-// By hand, since Clone cannot be derived on a struct with a parameter and a ghost field.
+// By hand: `derive_where(Clone, Copy)`, tried, is refused, since `Clone` is derived for no struct with a ghost field.
 impl<K: Kind> Clone for Rack<K> {
     ghost is_clone = { λ x y. y ≡ x };
 

@@ -6,7 +6,7 @@ use arrayvec::ArrayVec;
 // The rows; whether each block has a row; when each processor is free; when the data of each block is on each processor;
 // the greatest finish. What is at hand of a block stands at its number, and what is at hand of a processor at its own: one
 // struct for each block would join what no step reads together.
-#[derive(Drop)]
+#[derive(Debug, PartialEq, Eq, Drop)]
 pub struct Board {
     pub rows: ArrayVec<Row, MAX_BLOCKS>,
     pub placed: [bool; NUMBERS],

@@ -4,7 +4,7 @@ ghost use Rattle.std.proofs.Common.{rules};
 
 use crate::order::Priority;
 use crate::priority::{Rank, Standing};
-use either::Either;
+use either::{Either, for_both};
 
 // It means what the order that it holds means.
 impl<L: Priority, R: Priority> Priority for Either<L, R> {
@@ -13,9 +13,6 @@ impl<L: Priority, R: Priority> Priority for Either<L, R> {
     ghost lawful = { Prim.search rules };
 
     fn compare(&self, one: Standing, other: Standing) -> Rank {
-        match self {
-            Either::Left(order) => order.compare(one, other),
-            Either::Right(order) => order.compare(one, other),
-        }
+        for_both!(self, order => order.compare(one, other))
     }
 }

@@ -6,7 +6,7 @@ use arrayvec::ArrayVec;
 pub mod reading;
 
 // The rows in the order in which they were placed, and the greatest finish.
-#[derive(Debug, PartialEq, Eq, Drop)]
+#[derive(Clone, Debug, PartialEq, Eq, Drop)]
 pub struct Schedule {
     pub rows: ArrayVec<Row, MAX_BLOCKS>,
     pub length: u64,

@@ -4,10 +4,11 @@ ghost use Rattle.std.specs.Prelude.{◌≡◌, ℕ, ◌<◌, ◌≤◌, length, 
 ghost use Rattle.chains.specs.Chains.{Blocks, Once, Ordered};
 ghost use Rattle.chains.specs.Links.{Before, Numbered, message_at};
 
+use crate::limits::{MAX_BLOCKS, MAX_MESSAGES, NUMBERS};
 use crate::message::Message;
 
 /// Whether the table has the sender before the receiver.
-fn goes_forward(m: &Message, places: &[Option<u16>; 257]) -> bool
+fn goes_forward(m: &Message, places: &[Option<u16>; NUMBERS]) -> bool
     ensures { Decides result (Before places.now m.now) }
 {
     let from = places.get(m.from as usize).copied().flatten();
@@ -16,21 +17,21 @@ fn goes_forward(m: &Message, places: &[Option<u16>; 257]) -> bool
 }
 
 /// Whether every message goes forward.
-fn all_forward(messages: &[Message], places: &[Option<u16>; 257]) -> bool
+fn all_forward(messages: &[Message], places: &[Option<u16>; NUMBERS]) -> bool
     ensures { Decides result ((i : ℕ) → i < length messages.now → Before places.now (message_at messages.now i)) }
 {
     messages.iter().all(|m| goes_forward(m, places))
 }
 
 /// The places of the blocks of an order; nothing where a number is no block's or stands twice.
-fn places_of(order: &[u32]) -> Option<[Option<u16>; 257]>
+fn places_of(order: &[u32]) -> Option<[Option<u16>; NUMBERS]>
     requires { length order.now ≤ 256 }
     ensures { MatchOption result (Blocks order.now → Once order.now → ⊥) (Numbered order.now) }
 {
-    let mut places = [None; 257];
+    let mut places = [None; NUMBERS];
     for (k, b) in order.iter().enumerate() {
         let block = *b as usize;
-        if block == 0 || block > 256 || places[block].is_some() {
+        if block == 0 || block > MAX_BLOCKS || places[block].is_some() {
             return None;
         }
         places[block] = Some(k as u16);
@@ -42,7 +43,7 @@ fn places_of(order: &[u32]) -> Option<[Option<u16>; 257]>
 pub fn is_processing_order(messages: &[Message], order: &[u32]) -> bool
     ensures { Decides result (Ordered messages.now order.now) }
 {
-    if messages.len() > 1024 || order.len() > 256 {
+    if messages.len() > MAX_MESSAGES || order.len() > MAX_BLOCKS {
         return false;
     }
     // no `is_some_and`, tried: a closure that lends its own argument tells the proof nothing of its answer

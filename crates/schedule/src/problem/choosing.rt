@@ -12,17 +12,10 @@ use crate::problem::Problem;
 use crate::problem::bench::Bench;
 use crate::rows::Row;
 use chains::message::Message;
+use chains::table::entry;
 use machine::Machine;
 
-// The entry of a block in a table, 0 past its end.
-fn entry(table: &[u64; NUMBERS], block: u64) -> u64
-    ensures { result ≡ slice_index table.now block }
-{
-    table.get(block as usize).copied().unwrap_or(0)
-}
-
-// What is sooner: the best start so far, with its processor, or the next; the best so far where they are equal. The
-// library's min_by_key says no more than the test, and takes a closure and a proof by hand.
+// Of two starts, each with its processor, the sooner: the next one only where it is sooner than the best so far.
 fn sooner(best: (u64, u32), next: (u64, u32)) -> (u64, u32)
     ensures { result ≡ (if nat_lt next.0 best.0 then next else best) }
 {
@@ -45,9 +38,11 @@ impl<'a> Problem<'a> {
     fn standing(&self, block: u64) -> Standing
         ensures { result ≡ standing_in self.now block }
     {
+        let levels = self.levels;
+        let times = self.times;
         Standing {
-            level: entry(self.levels, block),
-            time: entry(self.times, block),
+            level: entry(levels, block as usize),
+            time: entry(times, block as usize),
         }
     }
 }
@@ -74,7 +69,8 @@ impl<'a, M: Machine, O: Priority> Bench<'a, M, O> {
             || (one.start == other.start && self.is_earlier(one.block, other.block))
     }
 
-    // The first of what is at hand and one row more.
+    // The first of what is at hand and one row more. Not `Some(best.filter(..).unwrap_or(row))`, tried: the check finds no proof
+    // of what the closure's call of `comes_before` gives.
     fn first_of_two(&self, best: Option<Row>, row: Row) -> Option<Row>
         ensures { result ≡ first_of_two (earlier_in (O.Priority.meaning self.now.priority.now) self.now.problem.now) best row }
     {
@@ -94,8 +90,7 @@ impl<'a, M: Machine, O: Priority> Bench<'a, M, O> {
         free.max(self.board.arrivals[block as usize][processor as usize])
     }
 
-    // The earliest start of a block, and the lowest processor that has it. A chain over the processors would call a closure
-    // that may start a block on those that exist alone, and a range does not say that it gives no other.
+    // The earliest start of a block, and the lowest processor that has it.
     fn earliest(&self, block: u32) -> (u64, u32)
         requires { block ≤ 256 }
         ensures { result ≡ earliest (M.Machine.meaning self.now.machine.now) (seen self.now.problem.now) (laid self.now.board) block }

@@ -1,7 +1,7 @@
 use Rattle.std.proofs.Common.{◌≡◌, None, length, sym, refl, ap, ◌∙◌, arith}
 use Rattle.std.proofs.lemmas.List.{get_or-replicate}
 use Rattle.chains.specs.Links.{latest}
-use Rattle.chains.proofs.best.Links.gather.Goals as goal
+use Rattle.chains.proofs.best.BySender.gather.Goals as goal
 
 pub loop-i-init : goal.loop-i-init
 loop-i-init c = record { wide = refl; long = refl; heads = λ b l. get_or-replicate 257 b None None l; nexts = λ j l. absurd (omega arith) }

@@ -1,7 +1,7 @@
 use Rattle.std.proofs.Common.{◌≡◌, map, get_or, drop, fold}
 use Rattle.chains.specs.Chains.{successors}
 use Rattle.chains.proofs.Links.{Walked, upto}
-use Rattle.chains.proofs.best.Links.best_from.Given as goal
+use Rattle.chains.proofs.best.BySender.best_from.Given as goal
 
 abbrev pub invariant-loop-at : goal.invariant-loop-at
 invariant-loop-at g l =

@@ -4,8 +4,8 @@ use Rattle.chains.specs.Chains.{successors, has}
 use Rattle.chains.specs.Links.{message_at, latest}
 use Rattle.chains.proofs.Bests.{folded_more}
 use Rattle.chains.proofs.Links.{Walked, upto, latest_le, none_met, walked_none, met_new, met_old, walked_new, walked_old}
-use Rattle.chains.proofs.best.Links.best_from.Goals as goal
-use Rattle.chains.proofs.best.Links.best_from.Goals.{then-first_time, else-first_time}
+use Rattle.chains.proofs.best.BySender.best_from.Goals as goal
+use Rattle.chains.proofs.best.BySender.best_from.Goals.{then-first_time, else-first_time}
 
 never : {P : Type 0} (x : Bool) → Decides x P → (P → ⊥) → x ≡ false
 never x d not = ⊎_elim (λ t. absurd (not (d.0 t))) (λ f. f) (cases_Bool x)
@@ -29,13 +29,14 @@ pub loop-at-smaller : goal.loop-at-smaller
 loop-at-smaller g c =
     let links = c.args.self.now in
     let ms = links.messages.now in
-    let i = c.in-Some.i in
+    let i = c.from-place.result in
+    let is : c.loop-at.at ≡ Some i = c.in-Some.is ∙ ap Some (sym c.from-place.ensures) in
     let U : Option ℕ → Type 0 = λ p. upto p ≤ length ms in
-    let inside : upto (Some i) ≤ length ms = subst U c.in-Some.is c.loop-at.invariant.0.inside in
+    let inside : upto (Some i) ≤ length ms = subst U is c.loop-at.invariant.0.inside in
     let e : get_or links.next i None ≡ latest ms (message_at ms i).from i = links.nexts i (omega arith) in
     let u : upto (get_or links.next i None) ≡ upto (latest ms (message_at ms i).from i) = ap upto e in
     let l : upto (latest ms (message_at ms i).from i) ≤ i = latest_le ms (message_at ms i).from i in
-    let v : upto c.loop-at.at ≡ upto (Some i) = ap upto c.in-Some.is in
+    let v : upto c.loop-at.at ≡ upto (Some i) = ap upto is in
     omega arith
 
 pub loop-at-preserved : goal.loop-at-preserved
@@ -45,13 +46,14 @@ loop-at-preserved g c =
     let b = c.args.block in
     let links = c.args.self.now in
     let ms = links.messages.now in
-    let i = c.in-Some.i in
+    let i = c.from-place.result in
+    let is : c.loop-at.at ≡ Some i = c.in-Some.is ∙ ap Some (sym c.from-place.ensures) in
     let to = (message_at ms i).to in
     let at' = get_or links.next i None in
     let met = c.loop-at.met in
     let before = c.args.met.now in
     let W : Option ℕ → Type 0 = λ p. Walked ms b before p met in
-    let w : Walked ms b before (Some i) met = subst W c.in-Some.is c.loop-at.invariant.0 in
+    let w : Walked ms b before (Some i) met = subst W is c.loop-at.invariant.0 in
     let inside : upto (Some i) ≤ length ms = w.inside in
     let lt : i < length ms = omega arith in
     let e : at' ≡ latest ms (message_at ms i).from i = links.nexts i lt in
@@ -59,8 +61,8 @@ loop-at-preserved g c =
     let most : to ≤ 256 = links.receivers i lt in
     let small : to < 257 = omega arith in
     let value : g.row.F-Value.Denot → List ℕ → g.row.F-Value.Denot = λ d ss. fold f.better (f.alone b) (map (λ s. f.extended b s (get_or c.args.best.now s d)) ss) in
-    let so_far : (d : g.row.F-Value.Denot) → c.loop-at.found ≡ value d S = λ d. c.loop-at.invariant.1 d ∙ ap (λ p. value d (successors (drop (upto p) ms) b)) c.in-Some.is in
-    let Q : List ℕ → Type 0 = λ m. Walked ms b before at' m in
+    let so_far : (d : g.row.F-Value.Denot) → c.loop-at.found ≡ value d S = λ d. c.loop-at.invariant.1 d ∙ ap (λ p. value d (successors (drop (upto p) ms) b)) is in
+    let Q : List (Option ℕ) → Type 0 = λ m. Walked ms b before at' m in
     elim c.if-first_time.branch [
       | then-first_time x ↦
           let new : has to S ≡ false = never (has to S) (w.marked to small) (c.first_time.ensures.new.0 x.if-first_time.true) in (

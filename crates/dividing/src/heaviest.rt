@@ -7,20 +7,21 @@ ghost use Rattle.dividing.specs.Firsts.{first_greatest};
 ghost use Rattle.dividing.specs.Dividing.{heaviest};
 ghost use Rattle.dividing.specs.Views.{net_of, blocks_of};
 
+use chains::limits::NUMBERS;
+use chains::table::entry;
 use machine::Machine;
 use partition::partition::Partition;
 use std::cmp::Reverse;
 
 // The less of these, the heavier the block: its entry in a table, the greater first, and then its number.
-fn rank(table: &[u64; 257], block: u32) -> (Reverse<u64>, u32)
+fn rank(table: &[u64; NUMBERS], block: u32) -> (Reverse<u64>, u32)
     ensures { result ≡ (record { 0 = slice_index table.now block }, block) }
 {
-    let entry = table.get(block as usize).copied().unwrap_or(0);
-    (Reverse(entry), block)
+    (Reverse(entry(table, block as usize)), block)
 }
 
 // The block with the greatest entry in a table, of several the one with the least number.
-fn heaviest_in(partition: &Partition<'_>, table: &[u64; 257]) -> u32
+fn heaviest_in(partition: &Partition<'_>, table: &[u64; NUMBERS]) -> u32
     ensures { (f : ℕ → ℕ) → AtEach f table.now → result ≡ first_greatest f 1 (block_list partition.now.blocks.now) }
 {
     let order = partition.order;

@@ -6,12 +6,13 @@ ghost use Rattle.dividing.specs.Tables.{Tables};
 ghost use Rattle.dividing.specs.Views.{net_of, Regroups};
 
 use arrayvec::ArrayVec;
+use chains::limits::MAX_BLOCKS;
 use joining::joined::Joined;
 use machine::Machine;
 use partition::partition::Partition;
 
 // A list in fixed room.
-fn table_of(list: &[u32]) -> ArrayVec<u32, 256>
+fn table_of(list: &[u32]) -> ArrayVec<u32, MAX_BLOCKS>
     requires within { length list.now ≤ 256 }
     ensures { result.items ≡ list.now }
 {

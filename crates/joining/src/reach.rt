@@ -1,6 +1,7 @@
 // Which blocks of a partition lead to which.
 ghost use Rattle.joining.specs.Tables.{Tells};
 
+use chains::limits::NUMBERS;
 use partition::partition::Partition;
 
 pub mod join;
@@ -10,6 +11,6 @@ pub mod rows;
 #[derive(Clone, Copy)]
 pub struct Reach<'a> {
     pub partition: Partition<'a>,
-    pub rows: [[bool; 257]; 257],
+    pub rows: [[bool; NUMBERS]; NUMBERS],
     ghost tells: { Tells partition rows },
 }

@@ -1,5 +1,5 @@
 -- The messages of a partition go between blocks of its tasks, and a machine answers for their sizes.
-use Rattle.std.proofs.Common.{◌≡◌, ℕ, ◌<◌, ◌≤◌, List, length, slice_index_or, sym, ◌∙◌, subst, arith}
+use Rattle.std.proofs.Common.{◌≡◌, ℕ, ◌<◌, ◌≤◌, List, length, slice_index_or, sym, subst, arith}
 use Rattle.graph.specs.declared.records.Link.{Link}
 use Rattle.graph.specs.Net.{no_link, Joined, Sized}
 use Rattle.chains.specs.declared.message.Message.{Message}
@@ -8,9 +8,8 @@ use Rattle.chains.proofs.Lists.{in_getD, in_index}
 use Rattle.partition.specs.Blocks.{messages}
 use Rattle.partition.specs.Times.{Handled}
 use Rattle.partition.specs.Views.{Least, Listed, Numbered}
-use Rattle.partition.specs.Held.{held}
+use Rattle.partition.specs.Named.{messages_of}
 use Rattle.partition.specs.declared.partition.Partition.{Partition}
-use Rattle.partition.specs.declared.partition.crossings.Crossings.{Crossings}
 use Rattle.partition.proofs.Renamed.{Ends, of_messages, messages_few}
 
 pub ends : (n : ℕ) (links : List Link) → Joined n links → Ends n links
@@ -58,15 +57,12 @@ ordered p = record {
   forward = p.forward;
 }
 
--- and so are the messages that stand with a partition
-pub fair_as : (x : Crossings) (ms : List Message) → ms ≡ held x → Fair ms
-fair_as x ms e = subst (λ (xs : List Message). Fair xs) (sym (e ∙ x.all)) (fair x.partition)
+-- its messages, under another name
+pub fair_as : (p : Partition) (ms : List Message) → ms ≡ messages_of p → Fair ms
+fair_as p ms e = subst (λ (xs : List Message). Fair xs) (sym e) (fair p)
 
 -- each of them goes between blocks of tasks, and a machine answers for its size
-pub held_good : (x : Crossings) (ms : List Message) → ms ≡ held x → (i : ℕ) → i < length ms
+pub message_good : (p : Partition) (ms : List Message) → ms ≡ messages_of p → (i : ℕ) → i < length ms
     → ((slice_index_or ms i (record { from = 0; to = 0; size = 0 })).from ≤ 256) × ((slice_index_or ms i (record { from = 0; to = 0; size = 0 })).to ≤ 256)
     × ((slice_index_or ms i (record { from = 0; to = 0; size = 0 })).size ≤ 1000000)
-held_good x ms e i lt = (fair_as x ms e).handled _ (in_getD ms i (record { from = 0; to = 0; size = 0 }) lt)
-
-pub held_ordered : (x : Crossings) → Ordered (held x) x.partition.order.now
-held_ordered x = subst (λ (ms : List Message). Ordered ms x.partition.order.now) (sym x.all) (ordered x.partition)
+message_good p ms e i lt = (fair_as p ms e).handled _ (in_getD ms i (record { from = 0; to = 0; size = 0 }) lt)

@@ -1,4 +1,4 @@
-// Blocks of tasks: the messages between them, what they take and cost on a machine, and joining two.
+// Blocks of tasks: the messages between them, and what they take and cost on a machine.
 #![tactic(auto)]
 
 pub mod examples;

@@ -12,6 +12,7 @@ pub mod crossings;
 pub mod delays;
 pub mod levels;
 pub mod times;
+pub mod with_crossings;
 
 // At most 256 tasks and 1,024 links, the block of each task, which is numbered by its least task, and an order of the
 // blocks in which every message goes from an earlier to a later place. Who can prove that makes the value as it stands.

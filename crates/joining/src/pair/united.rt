@@ -8,9 +8,10 @@ ghost use Rattle.joining.specs.Pairs.{taken_in, before, behind, reach_of, blocks
 use crate::joined::Joined;
 use crate::pair::Pair;
 use arrayvec::ArrayVec;
+use chains::limits::MAX_BLOCKS;
 
 // Appends the blocks of a list that pass a test, in their order.
-fn append<F: Fn(u32) -> bool>(to: &mut ArrayVec<u32, 256>, blocks: &[u32], passes: F)
+fn append<F: Fn(u32) -> bool>(to: &mut ArrayVec<u32, MAX_BLOCKS>, blocks: &[u32], passes: F)
     ghost test: { ℕ → Bool }
     requires callable { F.IsAlwaysCallable passes }
     requires tests { (block : ℕ) (answer : Bool) → F.post passes block answer → answer ≡ test block }
@@ -72,7 +73,7 @@ impl Pair<'_, '_> {
     }
 
     // The block of each task after joining.
-    fn blocks_after(&self, number: u32) -> ArrayVec<u32, 256>
+    fn blocks_after(&self, number: u32) -> ArrayVec<u32, MAX_BLOCKS>
         ensures { result.items ≡ united (taken_in self.now) number (blocks_of self.now) }
     {
         let reach = self.reach;
@@ -88,7 +89,7 @@ impl Pair<'_, '_> {
     }
 
     // The processing order after joining: the blocks before the union, the union, and the blocks behind it.
-    fn order_after(&self, number: u32) -> ArrayVec<u32, 256>
+    fn order_after(&self, number: u32) -> ArrayVec<u32, MAX_BLOCKS>
         ensures { result.items ≡ order_after (reach_of self.now) self.now.one self.now.other number (order_of self.now) }
     {
         let reach = self.reach;

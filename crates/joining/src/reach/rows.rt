@@ -3,12 +3,13 @@ ghost use Rattle.std.specs.Prelude.{◌≡◌};
 ghost use Rattle.joining.specs.Tables.{Tells, reach_in};
 
 use crate::reach::Reach;
+use chains::limits::NUMBERS;
 use chains::network::Network;
 use chains::reach::reach_rows;
 use partition::partition::Partition;
 
 // For each block of a partition and each number, whether the block leads to it.
-fn rows_of(partition: &Partition<'_>) -> [[bool; 257]; 257]
+fn rows_of(partition: &Partition<'_>) -> [[bool; NUMBERS]; NUMBERS]
     ensures { Tells partition.now result }
 {
     let crossings = partition.crossings();
@@ -16,7 +17,7 @@ fn rows_of(partition: &Partition<'_>) -> [[bool; 257]; 257]
         messages: crossings.as_slice(),
         order: partition.order,
     };
-    let mut rows = [[false; 257]; 257];
+    let mut rows = [[false; NUMBERS]; NUMBERS];
     reach_rows(&network, &mut rows);
     rows
 }

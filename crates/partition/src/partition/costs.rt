@@ -8,11 +8,12 @@ ghost use Rattle.partition.specs.Named.{messages_of, list_of, time_of, work_of, 
 ghost use Rattle.partition.specs.Times.{AtEach, Room};
 
 use crate::partition::Partition;
+use chains::limits::NUMBERS;
 use machine::Machine;
 
 impl Partition<'_> {
     // The sum of a table's entries at the blocks' numbers: the work, where they are block times.
-    fn sum_at(&self, table: &[u64; 257]) -> u64
+    fn sum_at(&self, table: &[u64; NUMBERS]) -> u64
         requires room { Room table.now }
         ensures { (f : ℕ → ℕ) → AtEach f table.now → result ≡ work f (list_of self.now) }
     {
@@ -21,7 +22,7 @@ impl Partition<'_> {
 
     // The greatest of a table's entries at the blocks' numbers: the critical path, where they are levels, and the delay
     // chain, where they are delays.
-    pub(crate) fn greatest_at(&self, table: &[u64; 257]) -> u64
+    pub(crate) fn greatest_at(&self, table: &[u64; NUMBERS]) -> u64
         ensures { (f : ℕ → ℕ) → AtEach (at_blocks f (list_of self.now)) table.now → result ≡ greatest f (list_of self.now) }
     {
         self.order

@@ -7,27 +7,29 @@ ghost use Rattle.partition.specs.Named.{messages_of, list_of, step_cost_of, dela
 ghost use Rattle.partition.specs.Times.{AtEach};
 
 use crate::partition::Partition;
-use crate::partition::crossings::Crossings;
+use crate::partition::with_crossings::WithCrossings;
+use chains::limits::{NUMBERS, STEPS};
 use chains::sums::greatest_step_sums;
+use chains::table::step_place;
 use machine::{Machine, greatest_delay};
 
 // The table with the cost of a step raised to a delay, where it was less.
-fn raise_at(table: &mut [u64; 66049], from: u32, to: u32, delay: u64)
+fn raise_at(table: &mut [u64; STEPS], from: u32, to: u32, delay: u64)
     requires sender { from ≤ 256 }
     requires receiver { to ≤ 256 }
     ensures { table.new ≡ slice_set table.old (from * 257 + to) (max (slice_index table.old (from * 257 + to)) delay) }
 {
-    let place = from as usize * 257 + to as usize;
+    let place = step_place(from, to);
     table[place] = table[place].max(delay);
 }
 
-impl Crossings<'_> {
+impl WithCrossings<'_> {
     // The cost of every step: the largest delay over all messages between its two blocks and all pairs of processors.
-    fn step_costs<M: Machine>(&self, machine: &M) -> [u64; 66049]
+    fn step_costs<M: Machine>(&self, machine: &M) -> [u64; STEPS]
         ensures { AtEachStep (step_cost_of (M.meaning machine.now) self.now.partition) result }
     {
-        let mut table = [0; 66049];
-        for message in self.as_slice() {
+        let mut table = [0; STEPS];
+        for message in self.messages() {
             let delay = greatest_delay(machine, message.size).unwrap_or(0);
             raise_at(&mut table, message.from, message.to, delay);
         }
@@ -35,11 +37,11 @@ impl Crossings<'_> {
     }
 
     // At each block's number the greatest sum of step costs over the chains that begin with it, and 0 at every other number.
-    fn delays<M: Machine>(&self, machine: &M) -> [u64; 257]
+    fn delays<M: Machine>(&self, machine: &M) -> [u64; NUMBERS]
         ensures { AtEach (delay_of (M.meaning machine.now) self.now.partition) result }
     {
         let costs = self.step_costs(machine);
-        let mut delays = [0; 257];
+        let mut delays = [0; NUMBERS];
         greatest_step_sums(&self.network(), &costs, &mut delays);
         delays
     }
@@ -47,10 +49,10 @@ impl Crossings<'_> {
 
 impl Partition<'_> {
     // At each block's number the greatest sum of step costs over the chains that begin with it, and 0 at every other number.
-    fn delays<M: Machine>(&self, machine: &M) -> [u64; 257]
+    fn delays<M: Machine>(&self, machine: &M) -> [u64; NUMBERS]
         ensures { AtEach (delay_of (M.meaning machine.now) self.now) result }
     {
-        self.crossings().delays(machine)
+        self.with_crossings().delays(machine)
     }
 
     // The greatest sum of step costs over chains, where a step costs the largest delay over all messages between its two

@@ -6,12 +6,13 @@ ghost use Rattle.partition.specs.Times.{own_time, AtEach, Room};
 ghost use Rattle.partition.specs.Views.{Least};
 
 use crate::partition::Partition;
-use crate::partition::crossings::Crossings;
+use crate::partition::with_crossings::WithCrossings;
+use chains::limits::NUMBERS;
 use graph::records::Task;
 use machine::Machine;
 
 // The table with a time added at a block's number.
-fn add_at(table: &mut [u64; 257], block: u32, time: u64)
+fn add_at(table: &mut [u64; NUMBERS], block: u32, time: u64)
     requires known { block ≤ 256 }
     requires fits { slice_index table.old block + time < 2 ^ 64 }
     ensures { table.new ≡ slice_set table.old block (slice_index table.old block + time) }
@@ -20,7 +21,7 @@ fn add_at(table: &mut [u64; 257], block: u32, time: u64)
 }
 
 // The table with the time of each task added at the number of its block.
-fn add_tasks(table: &mut [u64; 257], tasks: &[Task], blocks: &[u32])
+fn add_tasks(table: &mut [u64; NUMBERS], tasks: &[Task], blocks: &[u32])
     requires all { length blocks.now ≡ length tasks.now }
     requires few { length tasks.now ≤ 256 }
     requires timed { Timed tasks.now }
@@ -33,15 +34,15 @@ fn add_tasks(table: &mut [u64; 257], tasks: &[Task], blocks: &[u32])
     }
 }
 
-impl Crossings<'_> {
+impl WithCrossings<'_> {
     // At each block's number the starting time, with the reading of each message that enters and the writing of each that
     // leaves.
-    fn overheads<M: Machine>(&self, machine: &M) -> [u64; 257]
+    fn overheads<M: Machine>(&self, machine: &M) -> [u64; NUMBERS]
         ensures at_each { AtEach (overhead_of (M.meaning machine.now) self.now.partition) result }
         ensures room { Room result }
     {
-        let mut table = [machine.startup(); 257];
-        for message in self.as_slice() {
+        let mut table = [machine.startup(); NUMBERS];
+        for message in self.messages() {
             let reading = machine.reading(message.size).unwrap_or(0);
             let writing = machine.writing(message.size).unwrap_or(0);
             add_at(&mut table, message.to, reading);
@@ -51,7 +52,7 @@ impl Crossings<'_> {
     }
 
     // At each block's number its overhead and the times of its tasks.
-    pub(crate) fn times<M: Machine>(&self, machine: &M) -> [u64; 257]
+    pub(crate) fn times<M: Machine>(&self, machine: &M) -> [u64; NUMBERS]
         ensures at_each { AtEach (time_of (M.meaning machine.now) self.now.partition) result }
         ensures room { Room result }
     {
@@ -63,17 +64,17 @@ impl Crossings<'_> {
 
 impl Partition<'_> {
     // At each block's number its overhead on the machine.
-    pub fn overheads<M: Machine>(&self, machine: &M) -> [u64; 257]
+    pub fn overheads<M: Machine>(&self, machine: &M) -> [u64; NUMBERS]
         ensures { AtEach (overhead_of (M.meaning machine.now) self.now) result }
     {
-        self.crossings().overheads(machine)
+        self.with_crossings().overheads(machine)
     }
 
     // At each block's number what it takes on the machine: its overhead and the times of its tasks.
-    pub fn times<M: Machine>(&self, machine: &M) -> [u64; 257]
+    pub fn times<M: Machine>(&self, machine: &M) -> [u64; NUMBERS]
         ensures at_each { AtEach (time_of (M.meaning machine.now) self.now) result }
         ensures room { Room result }
     {
-        self.crossings().times(machine)
+        self.with_crossings().times(machine)
     }
 }

@@ -9,7 +9,6 @@ use crate::partition::Partition;
 use crate::partition::crossings::Crossings;
 use arrayvec::ArrayVec;
 use chains::message::Message;
-use chains::network::Network;
 use graph::limits::MAX_LINKS;
 use graph::records::Link;
 
@@ -43,37 +42,22 @@ fn gather(links: &[Link], blocks: &[u32]) -> ArrayVec<Message, MAX_LINKS>
     messages
 }
 
-impl<'a> Partition<'a> {
+impl Partition<'_> {
     // The messages between the blocks: one for each link that crosses. They never return to a block that they left.
-    pub fn crossings(&self) -> Crossings<'a>
+    pub fn crossings(&self) -> Crossings
         ensures result_value { held result ≡ messages_of self.now }
         ensures convex { Convex (messages_of self.now) }
-        ensures same { result.partition ≡ self.now }
     {
         let messages = gather(self.links, self.blocks);
-        Crossings {
-            partition: *self,
-            messages,
-        }
+        Crossings { messages }
     }
 }
 
-impl Crossings<'_> {
+impl Crossings {
     // The messages, in the order of their links.
     pub fn as_slice(&self) -> &[Message]
         ensures { result.now ≡ held self.now }
     {
         self.messages.as_slice()
-    }
-
-    // The messages with the processing order.
-    pub fn network(&self) -> Network<'_>
-        ensures messages { result.messages.now ≡ held self.now }
-        ensures order { result.order.now ≡ self.now.partition.order.now }
-    {
-        Network {
-            messages: self.as_slice(),
-            order: self.partition.order,
-        }
     }
 }

@@ -2,7 +2,7 @@ use Rattle.std.proofs.Common.{rules}
 use Rattle.partition.specs.Named.{time_of}
 use Rattle.partition.specs.Times.{AtEach}
 use Rattle.partition.proofs.Costing.{times_room}
-use Rattle.partition.proofs.partition.crossings.Crossings.times.Goals as goal
+use Rattle.partition.proofs.partition.with_crossings.WithCrossings.times.Goals as goal
 
 pub returns-clause-room : goal.returns-clause-room
 returns-clause-room g c =

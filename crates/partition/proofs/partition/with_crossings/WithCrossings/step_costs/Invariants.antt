@@ -1,6 +1,6 @@
 use Rattle.std.proofs.Common.{take}
 use Rattle.partition.specs.Costs.{step_cost, AtEachStep}
-use Rattle.partition.proofs.partition.crossings.Crossings.step_costs.Given as goal
+use Rattle.partition.proofs.partition.with_crossings.WithCrossings.step_costs.Given as goal
 
 -- the costs by the messages so far
 abbrev pub invariant-loop-message : goal.invariant-loop-message

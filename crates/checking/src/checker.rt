@@ -13,26 +13,22 @@ use crate::timing::{first_broken, length_of};
 use machine::Machine;
 use schedule::rows::Row;
 
+// Passes where nothing is refused.
+fn unless(refused: Option<CheckRefusal>) -> Result<(), CheckRefusal>
+    ensures { result ≡ unless refused tt }
+{
+    refused.map_or(Ok(()), Err)
+}
+
 // Whether no row is refused, each test over all rows before the next.
 fn check_each<M: Machine>(job: &Job, machine: &M, rows: &[Row]) -> Result<(), CheckRefusal>
     ensures { result ≡ unless (row_refusal (M.meaning machine.now) (seen job.now) rows.now) tt }
 {
-    if let Some(row) = first_misnamed(job.blocks, rows) {
-        return Err(CheckRefusal::Block(row));
-    }
-    if let Some(row) = first_stray(machine, rows) {
-        return Err(CheckRefusal::Processor(row));
-    }
-    if let Some(row) = first_broken(job.times, rows) {
-        return Err(CheckRefusal::Finish(row));
-    }
-    if let Some(row) = first_overlapping(rows) {
-        return Err(CheckRefusal::Overlap(row));
-    }
-    if let Some(row) = first_lacking(machine, job.messages, rows) {
-        return Err(CheckRefusal::Arrival(row));
-    }
-    Ok(())
+    unless(first_misnamed(job.blocks, rows).map(CheckRefusal::Block))?;
+    unless(first_stray(machine, rows).map(CheckRefusal::Processor))?;
+    unless(first_broken(job.times, rows).map(CheckRefusal::Finish))?;
+    unless(first_overlapping(rows).map(CheckRefusal::Overlap))?;
+    unless(first_lacking(machine, job.messages, rows).map(CheckRefusal::Arrival))
 }
 
 // Whether the rows are as many as the blocks, and then whether no row is refused.

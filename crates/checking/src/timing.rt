@@ -4,6 +4,8 @@ ghost use Rattle.schedule.specs.Problems.{length_of};
 ghost use Rattle.checking.specs.Checking.{first_row, breaks};
 
 use crate::first::first_row;
+use chains::limits::NUMBERS;
+use chains::table::entry;
 use schedule::rows::Row;
 
 // Whether a number is below the sum of two others.
@@ -11,13 +13,6 @@ pub(crate) fn is_below_sum(number: u64, x: u64, y: u64) -> bool
     ensures { result ≡ nat_lt number (x + y) }
 {
     x.checked_add(y).is_none_or(|sum| number < sum)
-}
-
-// What a block takes, 0 past the table.
-fn time_of(times: &[u64; 257], block: u64) -> u64
-    ensures { result ≡ slice_index times.now block }
-{
-    times.get(block as usize).copied().unwrap_or(0)
 }
 
 // Whether a number is the sum of two others.
@@ -28,11 +23,11 @@ fn is_sum(number: u64, x: u64, y: u64) -> bool
 }
 
 // The first row whose finish is not its start and the block time.
-pub(crate) fn first_broken(times: &[u64; 257], rows: &[Row]) -> Option<u64>
+pub(crate) fn first_broken(times: &[u64; NUMBERS], rows: &[Row]) -> Option<u64>
     ensures { result ≡ first_row (λ above r. breaks (λ b. slice_index times.now b) r) rows.now }
 {
     first_row(rows, |_, row| {
-        !is_sum(row.finish, row.start, time_of(times, row.block))
+        !is_sum(row.finish, row.start, entry(times, row.block as usize))
     })
 }
 

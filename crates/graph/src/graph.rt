@@ -1,3 +1,4 @@
+// What a graph is made of.
 ghost use Rattle.std.specs.Prelude.{◌≤◌, length, vec_len, vec_capacity};
 ghost use Rattle.graph.specs.declared.limits.TheConstants.{MAX_TASKS, MAX_LINKS};
 ghost use Rattle.graph.specs.Net.{Timed, Joined, Unlooped, Sized, Single, Threaded, Headed};

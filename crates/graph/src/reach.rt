@@ -35,7 +35,8 @@ fn direct(links: &[Link]) -> Rows
     rows
 }
 
-// Adds to a row what another holds.
+// Adds to a row what another holds. The other is read by index: what is written through `zip` over `iter_mut` is not
+// known to a proof.
 fn unite(row: &mut Row, other: &Row)
     ensures { (b : ℕ) → b < MAX_TASKS → slice_index_or row.new b false ≡ (slice_index_or row.old b false || slice_index_or other.now b false) }
 {

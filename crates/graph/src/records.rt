@@ -1,5 +1,6 @@
 // The plain records of a graph. This file has no clause, so that the specs may name its types.
-// Where there is no link the number is 0 and no Option, since 0 is the word for none in the words of a job.
+// Where there is no link the number is 0 and no Option: the words of a job are written from these fields as they stand,
+// and 0 is the format's word for none.
 
 // A task: its time, and the number of its newest outgoing link, 0 where it has none.
 #[derive(Clone, Copy, PartialEq, Eq, Debug)]

@@ -6,13 +6,14 @@ ghost use Rattle.page.specs.Text.{listing, refusal_line};
 
 use crate::fault::Fault;
 use crate::page::Page;
+use chains::limits::MAX_BLOCKS;
 use schedule::rows::Row;
 
 // The listing of a schedule; none where it has more than 256 rows.
 pub fn listing_page(rows: &[Row], length: u64, cost: u64, chain: u64) -> Option<Page>
     ensures { printed result ≡ (if nat_le (List.length rows.now) 256 then Some (listing rows.now length cost chain) else None) }
 {
-    if rows.len() > 256 {
+    if rows.len() > MAX_BLOCKS {
         return None;
     }
     let mut page = Page::new();

@@ -1,8 +1,9 @@
 -- What is known of words whose lists of links were tested.
-use Rattle.std.specs.Prelude.{◌≡◌, ℕ, zero, suc, ◌+◌, ◌*◌, ◌<◌, ◌≤◌, true, List, Some, None, Option, slice_index, slice_index_or}
+use Rattle.std.specs.Prelude.{◌≡◌, ℕ, ◌+◌, ◌*◌, ◌<◌, ◌≤◌, true, List, None, Option, slice_index, slice_index_or}
 use Rattle.graph.specs.declared.records.Link.{Link}
 use Rattle.graph.specs.Net.{linked}
 use Rattle.graph.specs.Calls.{is_time}
+use Rattle.graph.specs.Walks.{some_number}
 use Rattle.words.specs.Reading.{word, task_count, link_count, time_place, newest_place, next_place, times_named, sender_of}
 
 -- every pointer leads to a link that is there and older, and every link is named once
@@ -30,11 +31,6 @@ Takes pre n = (k : ℕ) → 1 ≤ k → k ≤ n → pre k
 -- each call at a number from 1 to n answers what f says
 abbrev pub Tells : {A : Type 0} → (ℕ → A → Type 0) → ℕ → (ℕ → A) → Type 0
 Tells {A} post n f = (k : ℕ) (x : A) → 1 ≤ k → k ≤ n → post k x → x ≡ f k
-
--- a number from 1, where 0 stands for none
-abbrev pub some_number : ℕ → Option ℕ
-some_number zero = None
-some_number (suc n) = Some (suc n)
 
 -- a table of 256 rows: at row a and column b the link from task a + 1 to task b + 1, if there is one
 abbrev pub Pairs : List (Option ℕ) → List Link → Type 0

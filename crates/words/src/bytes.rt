@@ -12,6 +12,7 @@ pub fn words_of_bytes(bytes: &[u8], into: &mut [u32]) -> Option<usize>
     if !rest.is_empty() || words.len() > into.len() {
         return None;
     }
+    // By index: what is written through `zip` over `iter_mut` is not known to a proof.
     for (i, word) in words.iter().enumerate() {
         into[i] = u32::from_le_bytes(*word);
     }

@@ -11,7 +11,7 @@ use crate::round_trips::words_read_back;
 use graph::graph::Graph;
 use graph::records::{Link, Refusal, Task};
 
-// A record that is written as W words.
+// A record that is written as W words. A trait and no closure, since its law gives how many words there are.
 trait Written<const W: usize> {
     ghost written: { Self → List ℕ };
 
@@ -41,7 +41,8 @@ impl Written<3> for Link {
     }
 }
 
-// Writes records one after another, from a place on.
+// Writes records one after another, from a place on. Each place is a range: what is written through `zip` over
+// `chunks_mut` is not known to a proof.
 fn put_all<const W: usize, T: Written<W>>(records: &[T], at: usize, out: &mut [u32])
     requires few { W * length records.now ≤ 4096 }
     requires near { at ≤ 4096 }

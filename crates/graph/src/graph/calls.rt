@@ -170,7 +170,8 @@ impl Graph {
         ReachTable::new(self.links.as_slice(), self.tasks.len())
     }
 
-    // The order in which the tasks can be processed, in the first places of the answer.
+    // The order in which the tasks can be processed, in the first places of the answer. It is an array, since this library
+    // stands on none that has a list of fixed room, and closing a graph drops the order.
     pub fn processing_order(&self) -> Result<[u32; MAX_TASKS], Refusal>
         ensures answer { MatchResult result (λ order. (first_of (close_rows (net_of self.now)) ≡ None) × Processes (length (net_of self.now).tasks) (net_of self.now).links (take (length (net_of self.now).tasks) order)) (λ why. first_of (close_rows (net_of self.now)) ≡ Some why) }
         ensures walks { ReachesByWalks (net_of self.now) }

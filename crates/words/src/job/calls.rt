@@ -93,7 +93,7 @@ impl<'a> JobWords<'a> {
         self.words[time_place(task)]
     }
 
-    // The number of a task's newest link, or 0.
+    // The number of a task's newest link, or 0, the format's word for none.
     pub(crate) fn newest(&self, task: usize) -> usize
         requires { task ≤ task_count self.now.words.now }
         ensures { result ≡ word self.now.words.now (newest_place task) }
@@ -115,7 +115,7 @@ impl<'a> JobWords<'a> {
         self.words[self.size_place(link)]
     }
 
-    // The number of the next older link of the same sender, or 0.
+    // The number of the next older link of the same sender, or 0, the format's word for none.
     pub(crate) fn next(&self, link: usize) -> usize
         requires { link ≤ link_count self.now.words.now }
         ensures { result ≡ word self.now.words.now (next_place self.now.words.now link) }

@@ -17,7 +17,7 @@ use graph::limits::{MAX_SIZE, MAX_TASKS};
 use graph::records::Refusal;
 
 // The place of a pair of tasks in a table with a row for each sender, whose numbers of links are `u16` so that it takes
-// no more than 256 KiB.
+// no more than 256 KiB. Rows in rows would be two lists to read through where the proofs have one.
 fn pair_place(sender: u32, receiver: u32) -> usize
     requires sender_some { 1 ≤ sender }
     requires sender_known { sender ≤ 256 }
@@ -74,7 +74,8 @@ impl<'a> TestedJob<'a> {
         }
     }
 
-    // Link by link, whether linking it after those before it is allowed.
+    // Link by link, whether linking it after those before it is allowed. No `map_err` with `?`: what its closure answers
+    // could not be cited at the early return.
     pub(crate) fn check_links(&self) -> Result<(), ReadRefusal>
         ensures { result ≡ verdict (first_refused self.now.job.words.now (link_count self.now.job.words.now)) }
     {

@@ -2,8 +2,10 @@ use Rattle.std.proofs.Common.{rules, ◌≡◌, ℕ, zero, suc, ◌+◌, ◌-◌
 use Rattle.graph.specs.declared.records.Refusal.{Refusal}
 use Rattle.graph.specs.declared.records.Refusal.TheVariants.{AlreadyLinked}
 use Rattle.graph.specs.Net.{linked}
+use Rattle.graph.specs.Walks.{some_number}
+use Rattle.graph.proofs.Walks.{some_is}
 use Rattle.words.specs.Reading.{task_count, with_links, sender_of, verdict}
-use Rattle.words.specs.Lists.{Pairs, some_number}
+use Rattle.words.specs.Lists.{Pairs}
 use Rattle.words.proofs.Pairing.{pair_read}
 use Rattle.words.proofs.Building.{fault_receiver, fault_itself, fault_size, fault_again, fault_none}
 use Rattle.words.proofs.tested.TestedJob.allowed.Goals as goal
@@ -46,11 +48,13 @@ pair-at T ws l n s r p few pairs e known nz h q = ap (λ k. get_or T k None) q �
 
 is_some : (k m : ℕ) → some_number m ≡ Some k → (k ≡ m) × (k ≡ 0 → ⊥)
 is_some k zero e = absurd cc
-is_some k (suc m) e = let q : k ≡ suc m = cc in (q, λ z. omega arith)
+is_some k (suc m) e =
+    let f : Some (suc m) ≡ Some k = some_is (suc m) (λ z. omega arith) ∙ e in
+    let q : k ≡ suc m = cc in (q, λ z. omega arith)
 
 is_none : (m : ℕ) → some_number m ≡ None → m ≡ 0
 is_none zero e = refl
-is_none (suc m) e = cc
+is_none (suc m) e = let f : Some (suc m) ≡ None = some_is (suc m) (λ z. omega arith) ∙ e in cc
 
 pub returns-in-Some : goal.returns-in-Some
 returns-in-Some c =

@@ -1,7 +1,7 @@
 use Rattle.std.proofs.Common.{◌≡◌, ℕ, ◌+◌, ◌-◌, ◌*◌, ◌≤◌, List, None, Option, replicate, refl, sym, ap, ◌∙◌, arith}
 use Rattle.std.proofs.lemmas.List.{get_or-replicate, length-replicate}
+use Rattle.graph.specs.Walks.{some_number}
 use Rattle.words.specs.Reading.{link_count, verdict}
-use Rattle.words.specs.Lists.{some_number}
 use Rattle.words.proofs.Building.{pairs_none}
 use Rattle.words.proofs.Checking.{Checked, checked_more, refused_here, receiver_known}
 use Rattle.words.proofs.Reading.{verdict_ok, verdict_err}

@@ -10,8 +10,8 @@ ghost use Rattle.dividing.specs.Next.{NextMet};
 ghost use Rattle.dividing.specs.Views.{net_of, blocks_of, Regroups};
 
 use crate::divided::Divided;
+use crate::held_apart::{held_apart, in_blocks};
 use crate::step::step;
-use crate::tables::{in_blocks, in_tables};
 use joining::joined::Joined;
 use machine::Machine;
 use partition::partition::Partition;
@@ -37,7 +37,7 @@ fn run<M: Machine>(partition: &Partition<'_>, machine: &M) -> Divided
 {
     let mut kept = None;
     let mut present = Divided {
-        joined: in_tables(partition),
+        joined: held_apart(partition),
         cost: partition.cost(machine),
     };
     while let Some(next) = after(partition, &present.joined, machine) {

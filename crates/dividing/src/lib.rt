@@ -6,6 +6,6 @@ pub mod divide;
 pub mod divided;
 pub mod examples;
 pub mod heaviest;
+mod held_apart;
 mod partner;
 mod step;
-mod tables;

@@ -7,7 +7,7 @@ ghost use Rattle.dividing.specs.Dividing.{others};
 ghost use Rattle.dividing.specs.Views.{net_of, blocks_of};
 
 use crate::choice::Choice;
-use crate::tables::cost_in;
+use crate::held_apart::in_blocks;
 use joining::reach::Reach;
 use machine::Machine;
 
@@ -18,7 +18,7 @@ fn choice<M: Machine>(reach: &Reach<'_>, machine: &M, heavy: u32, block: u32) ->
     let joined = reach.join(heavy, block)?;
     Some(Choice {
         partner: block,
-        cost: cost_in(&reach.partition, &joined, machine),
+        cost: in_blocks(&reach.partition, &joined).cost(machine),
     })
 }
 

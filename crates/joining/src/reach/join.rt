@@ -23,6 +23,7 @@ impl Reach<'_> {
         ensures { AnswersJoin self.now.partition one other result }
     {
         let blocks = self.partition.blocks;
+        // Not `then`: its closure was not proved to make the pair, as it does not know that both are blocks.
         if is_block(blocks, one) && is_block(blocks, other) {
             let pair = Pair {
                 reach: self,

@@ -10,7 +10,7 @@ use Rattle.dividing.proofs.divide.run.Goals as goal
 pub loop-next-init : goal.loop-next-init
 loop-next-init g c =
     let p = c.args.partition.now in
-    running_start (g.M.Machine.meaning c.args.machine.now) (net_of p) (blocks_of p) _ c.cost.result c.in_tables.ensures.tables c.in_tables.ensures.partition c.cost.ensures
+    running_start (g.M.Machine.meaning c.args.machine.now) (net_of p) (blocks_of p) _ c.cost.result c.held_apart.ensures.tables c.held_apart.ensures.partition c.cost.ensures
 
 pub after-requires : goal.after-requires
 after-requires g c = record { sorted = c.loop-next.invariant.stands.sorted }

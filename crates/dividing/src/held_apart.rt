@@ -1,35 +1,33 @@
 // The blocks of a partition held apart from it, and a partition's tasks and links in such blocks.
 ghost use Rattle.std.specs.Prelude.{◌≡◌, ◌≤◌, length};
 ghost use Rattle.joining.specs.Outcomes.{blocks_in, order_in};
-ghost use Rattle.dividing.specs.Dividing.{cost_of};
 ghost use Rattle.dividing.specs.Tables.{Tables};
 ghost use Rattle.dividing.specs.Views.{net_of, Regroups};
 
 use arrayvec::ArrayVec;
 use chains::limits::MAX_BLOCKS;
 use joining::joined::Joined;
-use machine::Machine;
 use partition::partition::Partition;
 
 // A list in fixed room.
-fn table_of(list: &[u32]) -> ArrayVec<u32, MAX_BLOCKS>
+fn array_of(list: &[u32]) -> ArrayVec<u32, MAX_BLOCKS>
     requires within { length list.now ≤ 256 }
     ensures { result.items ≡ list.now }
 {
-    let Ok(table) = ArrayVec::try_from(list) else {
+    let Ok(array) = ArrayVec::try_from(list) else {
         unreachable!()
     };
-    table
+    array
 }
 
 // The blocks and the order of a partition.
-pub(crate) fn in_tables(partition: &Partition<'_>) -> Joined
+pub(crate) fn held_apart(partition: &Partition<'_>) -> Joined
     ensures partition { blocks_in result ≡ partition.now.blocks.now }
     ensures order { order_in result ≡ partition.now.order.now }
     ensures tables { Tables (length partition.now.tasks.now) partition.now.links.now result }
 {
-    let blocks = table_of(partition.blocks);
-    let order = table_of(partition.order);
+    let blocks = array_of(partition.blocks);
+    let order = array_of(partition.order);
     Joined { blocks, order }
 }
 
@@ -47,12 +45,4 @@ pub(crate) fn in_blocks<'a>(partition: &Partition<'a>, joined: &'a Joined) -> Pa
         blocks,
         order,
     }
-}
-
-// What they cost in other blocks.
-pub(crate) fn cost_in<M: Machine>(partition: &Partition<'_>, joined: &Joined, machine: &M) -> u64
-    requires sorted { Regroups partition.now joined.now }
-    ensures { result ≡ cost_of (M.meaning machine.now) (net_of partition.now) (blocks_in joined.now) }
-{
-    in_blocks(partition, joined).cost(machine)
 }

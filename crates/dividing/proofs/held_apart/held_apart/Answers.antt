@@ -3,17 +3,17 @@ use Rattle.partition.specs.Blocks.{block_list}
 use Rattle.partition.specs.Sorted.{Sorted}
 use Rattle.joining.proofs.Leading.{order_counted}
 use Rattle.joining.proofs.Outcome.{sorted_of}
-use Rattle.dividing.proofs.tables.in_tables.Goals as goal
+use Rattle.dividing.proofs.held_apart.held_apart.Goals as goal
 
 pub returns-clause-tables : goal.returns-clause-tables
 returns-clause-tables c =
     let p = c.args.partition.now in
     let n = length p.tasks.now in
     let links = p.links.now in
-    let b = c.table_of-blocks.ensures in
-    let o = c.table_of-order.ensures in
+    let b = c.array_of-blocks.ensures in
+    let o = c.array_of-order.ensures in
     record {
       tasks = ap length b ∙ p.all;
-      sorted = subst (λ (x : List ℕ). Sorted n links x c.table_of-order.result.items) (sym b) (subst (Sorted n links p.blocks.now) (sym o) (sorted_of p));
+      sorted = subst (λ (x : List ℕ). Sorted n links x c.array_of-order.result.items) (sym b) (subst (Sorted n links p.blocks.now) (sym o) (sorted_of p));
       count = ap length o ∙ sym (order_counted p) ∙ ap (λ (x : List ℕ). length (block_list x)) (sym b);
     }

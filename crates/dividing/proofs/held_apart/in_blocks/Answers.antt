@@ -1,6 +1,6 @@
 use Rattle.joining.specs.Outcomes.{blocks_in, order_in}
 use Rattle.joining.proofs.Viewing.{viewed}
-use Rattle.dividing.proofs.tables.in_blocks.Goals as goal
+use Rattle.dividing.proofs.held_apart.in_blocks.Goals as goal
 
 pub invariant_of-result : goal.invariant_of-result
 invariant_of-result c =

@@ -13,6 +13,7 @@ use words::layout::MAX_WORDS;
 fn main(rt: HostRuntime) -> anyhow::Result<()> {
     let mut input = Vec::new(rt.alloc());
     rt.stdin().read_to_end(&mut input)?;
+    // Words are put into a lent list, and counted: job words are lent as slices.
     let mut words = [0u32; MAX_WORDS];
     let Some(count) = words_of_bytes(&input, &mut words) else {
         let bytes = input.len();

@@ -4,7 +4,7 @@ use planner::task_graph::TaskGraph;
 use std::io;
 use words::layout::MAX_WORDS;
 
-// The numbers of a list of links, from its newest on; it has no more links than there are, and 0 ends it.
+// The numbers of a list of links, from its newest on; it has no more links than there are. 0 ends it, as in job words.
 fn print_list(rt: &impl Print, links: &[Link], newest: u32) -> io::Result<()> {
     let mut number = newest;
     for _ in links {
@@ -32,7 +32,7 @@ fn print_tasks(rt: &impl Print, graph: &TaskGraph) -> io::Result<()> {
     Ok(())
 }
 
-// The words written back.
+// The words written back. They are put into a lent list, and counted: job words are lent as slices.
 fn print_words(rt: &impl Print, graph: &TaskGraph) -> io::Result<()> {
     let mut words = [0u32; MAX_WORDS];
     if let Ok(count) = graph.write_words(&mut words) {

@@ -1,3 +1,4 @@
+// What a task graph is made of.
 ghost use Rattle.std.specs.Prelude.{◌≡◌, ◌≤◌, false, vec_len, vec_capacity};
 ghost use Rattle.graph.specs.Of.{net_of};
 ghost use Rattle.graph.specs.Walks.{NoCircle};

@@ -1,5 +1,6 @@
 // The calls on a task graph: adding a task, linking two, closing, and looking at what is there.
-ghost use Rattle.std.specs.Prelude.{◌≡◌, ◌≤◌, false, IfOk, vec_len, vec_capacity};
+ghost use Rattle.std.specs.Prelude.{◌≡◌, ◌≤◌, if◌then◌else◌, false, Ok, Err, IfOk, vec_len, vec_capacity};
+ghost use Rattle.graph.specs.declared.records.Refusal.TheVariants.{WrongStage};
 ghost use Rattle.graph.specs.Of.{net_of};
 ghost use Rattle.graph.specs.Walks.{NoCircle, ReachesByWalks, NamesACircle};
 ghost use Rattle.planner.specs.State.{start, is_open, numbers};
@@ -65,13 +66,21 @@ impl TaskGraph {
         self.blocks.as_slice()
     }
 
+    // Refuses a graph that is not open.
+    fn must_be_open(&self) -> Result<(), Refusal>
+        ensures { result ≡ (if is_open self.now.stage then Ok tt else Err WrongStage) }
+    {
+        match self.stage {
+            Stage::Open => Ok(()),
+            Stage::Closed => Err(Refusal::WrongStage),
+        }
+    }
+
     // Takes one more task in, and answers its number.
     pub fn add_task(&mut self, time: u32) -> Result<u32, Refusal>
         ensures { (state_of self.new, result) ≡ step (state_of self.old) (add_task time) }
     {
-        let Stage::Open = self.stage else {
-            return Err(Refusal::WrongStage);
-        };
+        self.must_be_open()?;
         self.graph.add_task(time)
     }
 
@@ -79,9 +88,7 @@ impl TaskGraph {
     pub fn link(&mut self, from: u32, to: u32, size: u32) -> Result<u32, Refusal>
         ensures { (state_of self.new, result) ≡ step (state_of self.old) (link from to size) }
     {
-        let Stage::Open = self.stage else {
-            return Err(Refusal::WrongStage);
-        };
+        self.must_be_open()?;
         self.graph.link(from, to, size)
     }
 
@@ -91,9 +98,7 @@ impl TaskGraph {
         ensures walks { ReachesByWalks (state_of self.old).net }
         ensures circles { NamesACircle (state_of self.old).net }
     {
-        let Stage::Open = self.stage else {
-            return Err(Refusal::WrongStage);
-        };
+        self.must_be_open()?;
         self.graph.processing_order()?;
         let n = self.graph.tasks().len();
         number_blocks(&mut self.blocks, n);

@@ -1,4 +1,4 @@
-// When the data of a row is there.
+// When the data of a row is there. The machine and the rows are two lent things of which no fact is asked, so a struct of both would say no more.
 ghost use Rattle.std.specs.Prelude.{◌≡◌};
 ghost use Rattle.std.specs.List.{list_any};
 ghost use Rattle.std.specs.Result.{result_ok};

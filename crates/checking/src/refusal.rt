@@ -23,6 +23,7 @@ pub enum CheckRefusal {
     Arrival(u64),
 }
 
+// Number and place go by the cases of this kind, and places differ in width: a trait over all kinds would say only the names.
 impl CheckRefusal {
     // The layer that refuses, which is the same for every case.
     pub fn layer(&self) -> u32

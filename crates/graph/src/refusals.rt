@@ -8,6 +8,7 @@ use std::fmt;
 // The layer of every refusal of a call on a graph.
 pub const LAYER: u32 = 1;
 
+// Number and place go by the cases of this kind, and places differ in width: a trait over all kinds would say only the names.
 impl Refusal {
     pub fn number(&self) -> u32
         ensures { result ≡ number_of self.now }

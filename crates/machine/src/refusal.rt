@@ -16,6 +16,7 @@ pub enum MachineRefusal {
     FigureTooLarge(u32),
 }
 
+// Number and place go by the cases of this kind, and places differ in width: a trait over all kinds would say only the names.
 impl MachineRefusal {
     // The layer that refuses, which is the same for every case.
     pub fn layer(&self) -> u32

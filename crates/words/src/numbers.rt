@@ -6,6 +6,7 @@ use crate::refusal::ReadRefusal;
 use graph::records::Refusal;
 use std::fmt;
 
+// Number and place go by the cases of this kind, and places differ in width: a trait over all kinds would say only the names.
 impl ReadRefusal {
     pub fn number(&self) -> u32
         ensures { result ≡ number_of self.now }

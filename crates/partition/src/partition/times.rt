@@ -20,7 +20,7 @@ fn add_at(table: &mut [u64; NUMBERS], block: u32, time: u64)
     table[block as usize] += time;
 }
 
-// The table with the time of each task added at the number of its block.
+// The table with the time of each task added at the number of its block. It takes the two lists, since its loop goes over them side by side.
 fn add_tasks(table: &mut [u64; NUMBERS], tasks: &[Task], blocks: &[u32])
     requires all { length blocks.now ≡ length tasks.now }
     requires few { length tasks.now ≤ 256 }

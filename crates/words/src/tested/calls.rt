@@ -48,6 +48,7 @@ impl<'a> TestedJob<'a> {
     {
         let sender = self.senders[link];
         let receiver = self.job.receiver(link);
+        // No `contains`: the bounds in its answer were tried, and arithmetic did not find them in the cases below.
         if receiver == 0 || receiver as usize > self.job.task_count() {
             return Err(Refusal::NoSuchTask(receiver));
         }

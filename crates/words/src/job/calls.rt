@@ -63,6 +63,8 @@ impl<'a> JobWords<'a> {
         self.words[2] as usize
     }
 
+    // A link's number is at most 1,024 here and below, so that its place is within the words of the largest job; a struct of a
+    // number alone would carry that and nothing else.
     pub(crate) fn receiver_place(&self, link: usize) -> usize
         requires { link ≤ 1024 }
         ensures value { result ≡ receiver_place self.now.words.now link }

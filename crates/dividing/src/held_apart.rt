@@ -4,21 +4,9 @@ ghost use Rattle.joining.specs.Outcomes.{blocks_in, order_in};
 ghost use Rattle.dividing.specs.Tables.{Tables};
 ghost use Rattle.dividing.specs.Views.{net_of, Regroups};
 
-use arrayvec::ArrayVec;
-use chains::limits::MAX_BLOCKS;
+use fixed_list::list::FixedList;
 use joining::joined::Joined;
 use partition::partition::Partition;
-
-// A list in fixed room.
-fn array_of(list: &[u32]) -> ArrayVec<u32, MAX_BLOCKS>
-    requires within { length list.now ≤ 256 }
-    ensures { result.items ≡ list.now }
-{
-    let Ok(array) = ArrayVec::try_from(list) else {
-        unreachable!()
-    };
-    array
-}
 
 // The blocks and the order of a partition.
 pub(crate) fn held_apart(partition: &Partition<'_>) -> Joined
@@ -26,8 +14,8 @@ pub(crate) fn held_apart(partition: &Partition<'_>) -> Joined
     ensures order { order_in result ≡ partition.now.order.now }
     ensures tables { Tables (length partition.now.tasks.now) partition.now.links.now result }
 {
-    let blocks = array_of(partition.blocks);
-    let order = array_of(partition.order);
+    let blocks = FixedList::from_slice(partition.blocks);
+    let order = FixedList::from_slice(partition.order);
     Joined { blocks, order }
 }
 

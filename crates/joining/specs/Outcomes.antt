@@ -1,5 +1,6 @@
 -- What joining two blocks leaves of a partition with its processing order.
 use Rattle.std.specs.Prelude.{◌≡◌, ℕ, Bool, true, false, ◌&&◌, List, length, Option, MatchOption}
+use Rattle.fixed_list.specs.Items.{items_of}
 use Rattle.graph.specs.declared.records.Link.{Link}
 use Rattle.chains.specs.Chains.{has}
 use Rattle.partition.specs.Blocks.{block_list, messages}
@@ -11,10 +12,10 @@ use Rattle.joining.specs.declared.joined.Joined.{Joined}
 
 -- the block of each task, and the blocks in their processing order
 abbrev pub blocks_in : Joined → List ℕ
-blocks_in j = j.blocks.items
+blocks_in j = items_of j.blocks
 
 abbrev pub order_in : Joined → List ℕ
-order_in j = j.order.items
+order_in j = items_of j.order
 
 -- whether a and b are numbers of blocks
 abbrev pub both_blocks : List ℕ → ℕ → ℕ → Bool

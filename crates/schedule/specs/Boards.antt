@@ -2,6 +2,7 @@
 use Rattle.std.specs.Prelude.{◌≡◌, ℕ, ◌+◌, ◌*◌, ◌<◌, ◌≤◌, max, false, cond, List, [], length, Some, None, Option, ◌==◌, slice_index, slice_index_or}
 use Rattle.chains.specs.declared.message.Message.{Message}
 use Rattle.chains.specs.Lists.{greatest}
+use Rattle.fixed_list.specs.Items.{items_of}
 use Rattle.machine.specs.Model.{Model}
 use Rattle.schedule.specs.declared.board.Board.{Board}
 use Rattle.schedule.specs.declared.rows.Row.{Row}
@@ -10,7 +11,7 @@ use Rattle.schedule.specs.Placing.{is_placed, free, data_at}
 
 -- the rows on a board
 abbrev pub laid : Board → List Row
-laid board = board.rows.items
+laid board = items_of board.rows
 
 -- how many there are
 abbrev pub count : Board → ℕ

@@ -1,13 +1,13 @@
 // A schedule as placing makes it. This file has no clause, so that the specs may name its type.
 use crate::limits::MAX_BLOCKS;
 use crate::rows::Row;
-use arrayvec::ArrayVec;
+use fixed_list::list::FixedList;
 
 pub mod reading;
 
 // The rows in the order in which they were placed, and the greatest finish.
-#[derive(Clone, Debug, PartialEq, Eq, Drop)]
+#[derive(Clone, Copy, Debug, PartialEq, Eq)]
 pub struct Schedule {
-    pub rows: ArrayVec<Row, MAX_BLOCKS>,
+    pub rows: FixedList<Row, MAX_BLOCKS>,
     pub length: u64,
 }

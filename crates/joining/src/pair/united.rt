@@ -1,22 +1,22 @@
 // The union of a pair: the blocks that it takes in, and the partition and the order in which they are one.
 ghost use Rattle.std.specs.Prelude.{◌≡◌, ℕ, ◌+◌, ◌≤◌, Bool, ◌||◌, ◌++◌, length, filter};
-ghost use Rattle.arrayvec.specs.ArrayVec.{array_vec_len};
+ghost use Rattle.fixed_list.specs.Items.{items_of};
 ghost use Rattle.partition.specs.Joins.{least_among, united, order_after};
 ghost use Rattle.joining.specs.Outcomes.{JoinedIn};
 ghost use Rattle.joining.specs.Pairs.{taken_in, before, behind, reach_of, blocks_of, order_of};
 
 use crate::joined::Joined;
 use crate::pair::Pair;
-use arrayvec::ArrayVec;
 use chains::limits::MAX_BLOCKS;
+use fixed_list::list::FixedList;
 
 // Appends the blocks of a list that pass a test, in their order.
-fn append<F: Fn(u32) -> bool>(to: &mut ArrayVec<u32, MAX_BLOCKS>, blocks: &[u32], passes: F)
+fn append<F: Fn(u32) -> bool>(to: &mut FixedList<u32, MAX_BLOCKS>, blocks: &[u32], passes: F)
     ghost test: { ℕ → Bool }
     requires callable { F.IsAlwaysCallable passes }
     requires tests { (block : ℕ) (answer : Bool) → F.post passes block answer → answer ≡ test block }
-    requires room { array_vec_len to.old + length (filter test blocks.now) ≤ 256 }
-    ensures { to.new.items ≡ to.old.items ++ filter test blocks.now }
+    requires room { length (items_of to.old) + length (filter test blocks.now) ≤ 256 }
+    ensures { items_of to.new ≡ items_of to.old ++ filter test blocks.now }
 {
     for block in blocks {
         if passes(*block) {
@@ -73,11 +73,11 @@ impl Pair<'_, '_> {
     }
 
     // The block of each task after joining.
-    fn blocks_after(&self, number: u32) -> ArrayVec<u32, MAX_BLOCKS>
-        ensures { result.items ≡ united (taken_in self.now) number (blocks_of self.now) }
+    fn blocks_after(&self, number: u32) -> FixedList<u32, MAX_BLOCKS>
+        ensures { items_of result ≡ united (taken_in self.now) number (blocks_of self.now) }
     {
         let reach = self.reach;
-        let mut after = ArrayVec::new();
+        let mut after = FixedList::new();
         for block in reach.partition.blocks {
             after.push(if self.takes_in(*block) {
                 number
@@ -89,12 +89,12 @@ impl Pair<'_, '_> {
     }
 
     // The processing order after joining: the blocks before the union, the union, and the blocks behind it.
-    fn order_after(&self, number: u32) -> ArrayVec<u32, MAX_BLOCKS>
-        ensures { result.items ≡ order_after (reach_of self.now) self.now.one self.now.other number (order_of self.now) }
+    fn order_after(&self, number: u32) -> FixedList<u32, MAX_BLOCKS>
+        ensures { items_of result ≡ order_after (reach_of self.now) self.now.one self.now.other number (order_of self.now) }
     {
         let reach = self.reach;
         let order = reach.partition.order;
-        let mut after = ArrayVec::new();
+        let mut after = FixedList::new();
         append(&mut after, order, |block| self.is_before(block));
         after.push(number);
         append(&mut after, order, |block| self.is_behind(block));

@@ -1,12 +1,12 @@
 // The messages between the blocks of a partition.
-use arrayvec::ArrayVec;
 use chains::message::Message;
+use fixed_list::list::FixedList;
 use graph::limits::MAX_LINKS;
 
 pub mod gather;
 
 // The messages, one for each link that crosses.
-#[derive(Clone, Debug, Drop, Eq, PartialEq)]
+#[derive(Clone, Copy, Debug, Eq, PartialEq)]
 pub struct Crossings {
-    messages: ArrayVec<Message, MAX_LINKS>,
+    messages: FixedList<Message, MAX_LINKS>,
 }

@@ -9,7 +9,7 @@ use crate::problem::Problem;
 use crate::problem::arrivals::Sender;
 use crate::problem::bench::Bench;
 use crate::rows::Row;
-use arrayvec::ArrayVec;
+use fixed_list::list::FixedList;
 use machine::Machine;
 
 impl Board {
@@ -41,7 +41,7 @@ impl<'a, M: Machine, O: Priority> Bench<'a, M, O> {
         ensures rows { laid result.board ≡ [] }
     {
         let board = Board {
-            rows: ArrayVec::new(),
+            rows: FixedList::new(),
             placed: [false; NUMBERS],
             free: [0; MAX_PROCESSORS],
             arrivals: [[0; MAX_PROCESSORS]; NUMBERS],

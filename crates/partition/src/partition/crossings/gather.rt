@@ -1,5 +1,6 @@
 // Gathering the messages of a partition.
 ghost use Rattle.std.specs.Prelude.{◌≡◌, ◌≤◌, length};
+ghost use Rattle.fixed_list.specs.Items.{items_of};
 ghost use Rattle.graph.specs.Net.{Joined};
 ghost use Rattle.partition.specs.Blocks.{block_of, messages, Convex};
 ghost use Rattle.partition.specs.Held.{held};
@@ -7,8 +8,8 @@ ghost use Rattle.partition.specs.Named.{messages_of};
 
 use crate::partition::Partition;
 use crate::partition::crossings::Crossings;
-use arrayvec::ArrayVec;
 use chains::message::Message;
+use fixed_list::list::FixedList;
 use graph::limits::MAX_LINKS;
 use graph::records::Link;
 
@@ -22,12 +23,12 @@ fn block_at(blocks: &[u32], task: u32) -> u32
 }
 
 // One message for each link that crosses, in the order of the links.
-fn gather(links: &[Link], blocks: &[u32]) -> ArrayVec<Message, MAX_LINKS>
+fn gather(links: &[Link], blocks: &[u32]) -> FixedList<Message, MAX_LINKS>
     requires few { length links.now ≤ 1024 }
     requires joined { Joined (length blocks.now) links.now }
-    ensures { result.items ≡ messages links.now blocks.now }
+    ensures { items_of result ≡ messages links.now blocks.now }
 {
-    let mut messages = ArrayVec::new();
+    let mut messages = FixedList::new();
     for link in links {
         let from = block_at(blocks, link.sender);
         let to = block_at(blocks, link.receiver);

@@ -49,10 +49,20 @@ fn answer<M: Machine>(job: &Job, machine: &M, rows: &[Row]) -> Result<u64, Check
     Ok(length_of(rows))
 }
 
-// What is answered accepts exactly the valid schedules.
-fn answers_judge()
-    ensures { AcceptsExactly }
-{}
+// An answer as it is: it accepts exactly the valid schedules.
+fn judged<M: Machine>(
+    job: &Job,
+    machine: &M,
+    rows: &[Row],
+    given: Result<u64, CheckRefusal>,
+) -> Result<u64, CheckRefusal>
+    requires { given ≡ check_answer (M.meaning machine.now) (seen job.now) rows.now }
+    ensures answer { result ≡ check_answer (M.meaning machine.now) (seen job.now) rows.now }
+    ensures valid { Judges (M.meaning machine.now) (seen job.now) rows.now result }
+    ensures exact { AcceptsExactly }
+{
+    given
+}
 
 // The length of the rows, which may come from anyone and in any order; refused unless they are a valid schedule of the
 // job on the machine.
@@ -61,6 +71,5 @@ pub fn check<M: Machine>(job: &Job, machine: &M, rows: &[Row]) -> Result<u64, Ch
     ensures valid { Judges (M.meaning machine.now) (seen job.now) rows.now result }
     ensures exact { AcceptsExactly }
 {
-    answers_judge();
-    answer(job, machine, rows)
+    judged(job, machine, rows, answer(job, machine, rows))
 }

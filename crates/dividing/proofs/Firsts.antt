@@ -85,6 +85,11 @@ module _ {A : Type 0} (better : A → A → Bool) (ranks : Ranks better) where
       subst (λ k. Chosen better (x ∷ y ∷ ys) (first_best better k ys)) (sym e) (dropped x y ys (first_best better x ys) t c.before c.after c.split c.earlier c.none))
       (cases_Bool (better y x))
 
+  -- what is chosen of two lists put together
+  pub first_append : (x : A) (xs ys : List A) → first_best better x (xs ++ ys) ≡ first_best better (first_best better x xs) ys
+  first_append x [] ys = refl
+  first_append x (y ∷ xs) ys = first_append (cond (better y x) y x) xs ys
+
   -- what is chosen stands in the list
   pub chosen_in : (xs : List A) (r : A) → Chosen better xs r → In r xs
   chosen_in xs r c = subst (λ l. In r l) (sym c.split) (in_right r c.before (r ∷ c.after) (inl refl))

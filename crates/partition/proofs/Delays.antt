@@ -3,7 +3,7 @@ use Rattle.std.proofs.Common.{◌≡◌, ℕ, zero, suc, ◌+◌, ◌*◌, ◌<�
 use Rattle.std.proofs.lemmas.List.{take_more, length-set, get_or-set_same, get_or-set_other}
 use Rattle.std.proofs.lemmas.Bool.{cases_eq, cases_Bool, eq-eqb, ne_eqb, eqb-true, and_parts, and_from, cond-true, cond-false}
 use Rattle.chains.specs.declared.message.Message.{Message}
-use Rattle.chains.specs.Chains.{Step, Follows, chains}
+use Rattle.chains.specs.Chains.{Step, Follows, Ordered, chains}
 use Rattle.chains.specs.Lists.{In, greatest}
 use Rattle.chains.specs.Sums.{GreatestAtEach, SmallCosts, cost_in, steps_from, steps_total}
 use Rattle.chains.proofs.Lists.{in_getD}
@@ -12,9 +12,11 @@ use Rattle.machine.specs.Model.{Model, Lawful}
 use Rattle.machine.specs.Greatest.{GreatestDelay}
 use Rattle.partition.specs.Costs.{greatest_below, farthest, step_cost, delay_from, delay_chain, delay_at, AtEachStep}
 use Rattle.partition.specs.Times.{AtEach, Handled}
+use Rattle.partition.specs.Blocks.{block_list}
 use Rattle.partition.specs.Named.{messages_of, list_of}
+use Rattle.partition.specs.Views.{Listed, Numbered}
 use Rattle.partition.specs.declared.partition.Partition.{Partition}
-use Rattle.partition.proofs.Handling.{fair}
+use Rattle.partition.proofs.Handling.{fair, ordered, listed, numbered}
 use Rattle.partition.proofs.Levels.{greatest_le, most_at}
 
 pub below_ge : (n : ℕ) (f : ℕ → ℕ) (k : ℕ) → k < n → f k ≤ greatest_below n f
@@ -150,19 +152,25 @@ steps_same ms f g same [] b h = refl
 steps_same ms f g same (s ∷ r) b h = omega (arith, same b s h.0, steps_same ms f g same r s h.1)
 
 -- what the run leaves is at each block's number the greatest sum of step costs of a chain from it
-pub delays_at : (p : Partition) (ms : List Message) (order : List ℕ) → ms ≡ messages_of p → order ≡ p.order.now
+pub delays_at : (ms : List Message) (order blocks : List ℕ) → Ordered ms order → Listed (length blocks) blocks order → Numbered (length blocks) blocks order
+    → (m : Model) → Lawful m → Handled ms → (costs table : List ℕ) → AtEachStep (step_cost m ms) costs → length table ≡ 257
+    → GreatestAtEach (steps_total (cost_in costs)) (SmallCosts ms (cost_in costs)) ms order (replicate 257 0) table
+    → AtEach (delay_at m ms (block_list blocks)) table
+delays_at ms order blocks o listed numbered m law h costs table at long g =
+    let same : (a b : ℕ) → Step ms a b → cost_in costs a b ≡ step_cost m ms a b =
+    λ a b s. let k = h s.message s.known in at.holds a b (omega (arith, k.0, s.leaves)) (omega (arith, k.1, s.comes)) in
+    let tiny : SmallCosts ms (cost_in costs) = λ a b s. omega (arith, same a b s, step_small m law ms h a b) in
+    most_at ms order blocks o listed numbered (steps_total (step_cost m ms)) table long
+    (λ b i. greatest_same ms b (steps_total (cost_in costs)) (steps_total (step_cost m ms)) (get_or table b 0) (λ c f. steps_same ms (cost_in costs) (step_cost m ms) same c b f) (g.exact tiny b i))
+    g.kept
+
+-- the same of a partition, whose messages and order the run was given
+pub partition_delays : (p : Partition) (ms : List Message) (order : List ℕ) → ms ≡ messages_of p → order ≡ p.order.now
     → (m : Model) → Lawful m → (costs table : List ℕ) → AtEachStep (step_cost m (messages_of p)) costs → length table ≡ 257
     → GreatestAtEach (steps_total (cost_in costs)) (SmallCosts ms (cost_in costs)) ms order (replicate 257 0) table
     → AtEach (delay_at m (messages_of p) (list_of p)) table
-delays_at p ms order em eo m law costs table at long run =
-    let cost = step_cost m (messages_of p) in
-    let h = (fair p).handled in
+partition_delays p ms order em eo m law costs table at long run =
     let g : GreatestAtEach (steps_total (cost_in costs)) (SmallCosts (messages_of p) (cost_in costs)) (messages_of p) p.order.now (replicate 257 0) table =
     subst (λ (os : List ℕ). GreatestAtEach (steps_total (cost_in costs)) (SmallCosts (messages_of p) (cost_in costs)) (messages_of p) os (replicate 257 0) table) eo
     (subst (λ (ys : List Message). GreatestAtEach (steps_total (cost_in costs)) (SmallCosts ys (cost_in costs)) ys order (replicate 257 0) table) em run) in
-    let same : (a b : ℕ) → Step (messages_of p) a b → cost_in costs a b ≡ cost a b =
-    λ a b s. let k = h s.message s.known in at.holds a b (omega (arith, k.0, s.leaves)) (omega (arith, k.1, s.comes)) in
-    let tiny : SmallCosts (messages_of p) (cost_in costs) = λ a b s. omega (arith, same a b s, step_small m law (messages_of p) h a b) in
-    most_at p (steps_total cost) table long
-    (λ b i. greatest_same (messages_of p) b (steps_total (cost_in costs)) (steps_total cost) (get_or table b 0) (λ c f. steps_same (messages_of p) (cost_in costs) cost same c b f) (g.exact tiny b i))
-    g.kept
+    delays_at (messages_of p) p.order.now p.blocks.now (ordered p) (listed p) (numbered p) m law (fair p).handled costs table at long g

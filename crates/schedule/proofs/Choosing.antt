@@ -10,7 +10,7 @@ use Rattle.schedule.specs.declared.problem.Problem.{Problem as Lent}
 use Rattle.schedule.specs.Orders.{Order}
 use Rattle.schedule.specs.Problems.{Problem}
 use Rattle.schedule.specs.Seen.{seen, earlier_in, stepped}
-use Rattle.schedule.specs.Placing.{is_placed, is_fed, is_candidate, start_on, earliest_upto, earliest, row_of, comes_before, first_of_two, first_among, chosen, placed}
+use Rattle.schedule.specs.Placing.{is_placed, is_fed, is_candidate, start_on, earliest_upto, earliest, row_of, comes_before, first_of_two, first_among, chosen, with_row, placed}
 use Rattle.schedule.specs.Boards.{laid, count, limit, Fitting}
 use Rattle.schedule.proofs.Boarding.{Shows}
 
@@ -74,13 +74,19 @@ pub among_all : (M : Model) (g : Problem) (earlier : ℕ → ℕ → Bool) (rows
     → first_among M g earlier rows best (drop i bs) ≡ whole → best ≡ whole
 among_all M g earlier rows bs i le best whole e = sym (at_drop_all (λ (rest : List ℕ). first_among M g earlier rows best rest) bs i le) ∙ e
 
--- one step more, by what is the same
-pub placed_more : (M M' : Model) (p p' : Lent) (o o' : Order) (k : ℕ) (rows next : List Row) → M' ≡ M → p' ≡ p → o' ≡ o → rows ≡ placed M (seen p) (earlier_in o p) k
-    → next ≡ stepped M' p' o' rows → next ≡ placed M (seen p) (earlier_in o p) (k + 1)
-placed_more M M' p p' o o' k rows next eM ep eo e en =
+-- one step more
+pub placed_more : (M : Model) (g : Problem) (earlier : ℕ → ℕ → Bool) (k : ℕ) (rows next : List Row) → rows ≡ placed M g earlier k → next ≡ with_row rows (chosen M g earlier rows)
+    → next ≡ placed M g earlier (k + 1)
+placed_more M g earlier k rows next e en =
     let up : suc k ≡ k + 1 = omega arith in
-    en ∙ ap (λ (m : Model). stepped m p' o' rows) eM ∙ ap (λ (q : Lent). stepped M q o' rows) ep ∙ ap (λ (q : Order). stepped M p q rows) eo
-    ∙ ap (λ (rs : List Row). stepped M p o rs) e ∙ ap (placed M (seen p) (earlier_in o p)) up
+    en ∙ ap (λ (rs : List Row). with_row rs (chosen M g earlier rs)) e ∙ ap (placed M g earlier) up
+
+-- the same of a lent problem, by what is the same
+pub stepped_more : (M M' : Model) (p p' : Lent) (o o' : Order) (k : ℕ) (rows next : List Row) → M' ≡ M → p' ≡ p → o' ≡ o → rows ≡ placed M (seen p) (earlier_in o p) k
+    → next ≡ stepped M' p' o' rows → next ≡ placed M (seen p) (earlier_in o p) (k + 1)
+stepped_more M M' p p' o o' k rows next eM ep eo e en =
+    placed_more M (seen p) (earlier_in o p) k rows next e
+    (en ∙ ap (λ (m : Model). stepped m p' o' rows) eM ∙ ap (λ (q : Lent). stepped M q o' rows) ep ∙ ap (λ (q : Order). stepped M p q rows) eo)
 
 -- the row of a block of the problem can come next
 row_fits : (M : Model) (g : Problem) (board : Board) → Shows M g board → 1 ≤ M.processors → (b : ℕ) → b ≤ 256 → g.time b < 2 ^ 40

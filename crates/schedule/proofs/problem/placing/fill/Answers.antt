@@ -3,14 +3,14 @@ use Rattle.schedule.specs.Boards.{laid}
 use Rattle.schedule.specs.Placing.{placed}
 use Rattle.schedule.specs.Problems.{length_of}
 use Rattle.schedule.specs.Seen.{seen, earlier_in, placing_in}
-use Rattle.schedule.proofs.Choosing.{placed_more}
+use Rattle.schedule.proofs.Choosing.{stepped_more}
 use Rattle.schedule.proofs.problem.placing.fill.Goals as goal
 
 pub loop-preserved : goal.loop-preserved
 loop-preserved g c =
     let i = c.loop.invariant in
     let e = c.step.ensures in
-    let more = placed_more (g.M.Machine.meaning c.args.machine.now) _ c.args.problem.now _ (g.O.Priority.meaning c.args.priority.now) _ c.loop.index (laid c.loop.bench.board) (laid c.step.new.self.board)
+    let more = stepped_more (g.M.Machine.meaning c.args.machine.now) _ c.args.problem.now _ (g.O.Priority.meaning c.args.priority.now) _ c.loop.index (laid c.loop.bench.board) (laid c.step.new.self.board)
     (ap g.M.Machine.meaning i.1) i.0 (ap g.O.Priority.meaning i.2) i.3 e.rows in
     (e.problem ∙ i.0, e.machine ∙ i.1, e.priority ∙ i.2, more, omega (arith, e.count, i.4))
 

@@ -1,4 +1,4 @@
--- What dividing keeps, in tables.
+-- What dividing keeps.
 use Rattle.std.specs.Prelude.{◌≡◌, ℕ, List, length}
 use Rattle.graph.specs.Net.{Net}
 use Rattle.machine.specs.Model.{Model}

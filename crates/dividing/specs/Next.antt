@@ -1,4 +1,4 @@
--- What is met next, in tables.
+-- What is met next.
 use Rattle.std.specs.Prelude.{◌≡◌, ℕ, ◌<◌, List, length}
 use Rattle.graph.specs.Net.{Net}
 use Rattle.machine.specs.Model.{Model}

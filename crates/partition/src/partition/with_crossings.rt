@@ -8,7 +8,7 @@ use crate::partition::crossings::Crossings;
 
 pub mod network;
 
-// The messages are gathered once, for all figures of the partition.
+// A partition with its messages, gathered once for what one call asks of it.
 #[derive(Drop)]
 pub(crate) struct WithCrossings<'a> {
     pub(crate) partition: Partition<'a>,

@@ -45,10 +45,12 @@ fn unite(row: &mut Row, other: &Row)
     }
 }
 
-// Lets each task that reaches one task reach all that this one reaches.
-fn pass_through(rows: &mut Rows, via: usize)
-    requires { via < MAX_TASKS }
-    ensures { (a b : ℕ) → a < MAX_TASKS → b < MAX_TASKS → at rows.new a b ≡ (at rows.old a b || (at rows.old a via && at rows.old via b)) }
+// Lets each task of the rows that reaches one of these tasks reach all that this one reaches.
+fn pass_through(rows: &mut [Row], via: usize)
+    requires known { via < length rows.old }
+    requires few { length rows.old ≤ MAX_TASKS }
+    ensures long { length rows.new ≡ length rows.old }
+    ensures passed { (a b : ℕ) → a < length rows.old → b < MAX_TASKS → at rows.new a b ≡ (at rows.old a b || (at rows.old a via && at rows.old via b)) }
 {
     let onward = rows[via];
     for row in rows {
@@ -58,7 +60,8 @@ fn pass_through(rows: &mut Rows, via: usize)
     }
 }
 
-// The rows of what each task reaches over one or more links, where only the first tasks stand in between.
+// The rows of what each task reaches over one or more links, where only the first tasks stand in between. The rows of
+// the others hold nothing, and are not looked at.
 fn closed(links: &[Link], tasks: usize) -> Rows
     requires few { tasks ≤ MAX_TASKS }
     requires joined { Joined tasks links.now }
@@ -66,7 +69,7 @@ fn closed(links: &[Link], tasks: usize) -> Rows
 {
     let mut rows = direct(links);
     for via in 0..tasks {
-        pass_through(&mut rows, via);
+        pass_through(&mut rows[..tasks], via);
     }
     rows
 }

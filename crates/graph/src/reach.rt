@@ -24,6 +24,13 @@ pub(crate) struct ReachTable<'a> {
     ghost shows: { Shows rows.now (through links.now tasks) },
 }
 
+// Rows that hold nothing.
+pub(crate) fn no_rows() -> Rows
+    ensures { result ≡ replicate MAX_TASKS (replicate MAX_TASKS false) }
+{
+    [[false; MAX_TASKS]; MAX_TASKS]
+}
+
 // Puts the links into rows that hold nothing.
 fn direct(rows: &mut Rows, links: &[Link])
     requires empty { rows.old ≡ replicate MAX_TASKS (replicate MAX_TASKS false) }

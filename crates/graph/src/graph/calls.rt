@@ -9,7 +9,7 @@ ghost use Rattle.graph.specs.Of.{net_of};
 
 use crate::graph::Graph;
 use crate::limits::{MAX_LINKS, MAX_SIZE, MAX_TASKS, MAX_TIME};
-use crate::reach::{ReachTable, Rows, closed};
+use crate::reach::{ReachTable, Rows, closed, no_rows};
 use crate::records::{Link, Refusal, Task};
 use std::alloc::{AllocError, Global};
 
@@ -179,12 +179,11 @@ impl Graph {
         ensures walks { ReachesByWalks (net_of self.now) }
         ensures circles { NamesACircle (net_of self.now) }
     {
-        // Rows are cleared on entry, as all locals are; cleared again further down they would cost that twice.
-        let mut rows = [[false; MAX_TASKS]; MAX_TASKS];
         self.circles_named();
         if self.tasks.is_empty() {
             return Err(Refusal::NoTask);
         }
+        let mut rows = no_rows();
         closed(&mut rows, self.links.as_slice(), self.tasks.len());
         let table = self.reach(&rows);
         if let Some(on) = table.least_on_circle() {

@@ -1,17 +1,17 @@
 -- A square table of 256 rows after a write, and counts.
-use Rattle.std.proofs.Common.{◌≡◌, ℕ, zero, suc, ◌+◌, ◌-◌, ◌<◌, ◌≤◌, Bool, true, false, ◌&&◌, ◌||◌, List, [], length, get_or, take, set, Some, None, Option, sym, refl, ap, ◌∙◌, subst, ⊎_elim, add-one, add-zero, zero-add, arith, length-set}
-use Rattle.std.proofs.lemmas.List.{get_or-set_same, get_or-set_other}
+use Rattle.std.proofs.Common.{◌≡◌, ℕ, zero, suc, ◌+◌, ◌-◌, ◌<◌, ◌≤◌, Bool, true, false, ◌&&◌, ◌||◌, List, [], ◌++◌, length, get_or, take, drop, set, Some, None, Option, sym, refl, ap, ◌∙◌, subst, ⊎_elim, add-one, add-zero, zero-add, arith, length-set}
+use Rattle.std.proofs.lemmas.List.{get_or-set_same, get_or-set_other, get_or-take, get_or-drop, get_or_append_left, get_or-append_right}
 use Rattle.std.proofs.lemmas.List.FromFn.{get_or-range_with_len, length-range_with_len}
-use Rattle.std.proofs.lemmas.Bool.{cases_eq}
+use Rattle.std.proofs.lemmas.Bool.{cases_eq, cases_lt}
 use Rattle.std.proofs.lemmas.Bool.Decides.{nat_tests}
 use Rattle.std.specs.List.{range_with_len, AllWithin, HoldsAt}
 use Rattle.std.specs.Option.{MatchOption}
 use Rattle.graph.specs.declared.records.Link.{Link}
-use Rattle.graph.specs.Net.{no_link, joins}
+use Rattle.graph.specs.Net.{no_link, joins, Joined}
 use Rattle.graph.specs.Tables.{at, Shows, count_below}
 use Rattle.graph.specs.Walks.{through, least, some_number}
 use Rattle.graph.proofs.LastOfs.{last_take_more}
-use Rattle.graph.proofs.Walks.{some_is, least_here}
+use Rattle.graph.proofs.Walks.{some_is, least_here, through_past}
 
 -- 256 rows of 256 places
 pub record Square (rows : List (List Bool)) : Type 0 where
@@ -44,11 +44,11 @@ module _ (links : List Link) (i : ℕ) (h : i < length links) (rows : List (List
 
 -- the rows below i have let one task through, and the others are as they were
 pub record Passing (E T : List (List Bool)) (via i : ℕ) : Type 0 where
-  pub tall : length T ≡ 256
+  pub tall : length T ≡ length E
   pub done : (a b : ℕ) → a < i → b < 256 → at T a b ≡ (at E a b || (at E a via && at E via b))
   pub left : (a : ℕ) → i ≤ a → get_or T a [] ≡ get_or E a []
 
-pub pass_more : (E T : List (List Bool)) (via i : ℕ) (row : List Bool) → i < 256 → Passing E T via i
+pub pass_more : (E T : List (List Bool)) (via i : ℕ) (row : List Bool) → i < length E → Passing E T via i
     → ((b : ℕ) → b < 256 → get_or row b false ≡ (at E i b || (at E i via && at E via b))) → Passing E (set T i row) via (i + 1)
 pass_more E T via i row il p new = record {
   tall = length-set T i row ∙ p.tall;
@@ -65,6 +65,25 @@ shows_more links k rows rows' l shows passes a b la lb =
     let before = shows a k la l in
     let after = shows k b l lb in
     rw (add-one k) (cc (add-one k))
+
+-- the table whose first rows have let one more task through, where links join only the tasks of these rows
+pub shows_front : (links : List Link) (n k : ℕ) (E T : List (List Bool)) → n ≤ 256 → Joined n links → k < n → length E ≡ 256 → length T ≡ n → Shows E (through links k)
+    → ((a b : ℕ) → a < n → b < 256 → at T a b ≡ (at (take n E) a b || (at (take n E) a k && at (take n E) k b))) → Shows (T ++ drop n E) (through links (k + 1))
+shows_front links n k E T few joined kn tall long shows passes =
+    shows_more links k E (T ++ drop n E) (omega arith) shows (λ a b la lb.
+    let via : get_or (take n E) k [] ≡ get_or E k [] = get_or-take n E k [] kn in
+    ⊎_elim
+    (λ (l : a < n).
+    let here : get_or (take n E) a [] ≡ get_or E a [] = get_or-take n E a [] l in
+    let new : get_or (T ++ drop n E) a [] ≡ get_or T a [] = get_or_append_left T (drop n E) [] a (omega arith) in
+    let front = passes a b l lb in
+    cc)
+    (λ (g : n ≤ a).
+    let back : n + (a - n) ≡ a = omega arith in
+    let old : get_or (T ++ drop n E) a [] ≡ get_or E a [] = get_or-append_right T (drop n E) n a [] long g ∙ get_or-drop n E (a - n) [] ∙ ap (λ i. get_or E i []) back in
+    let none : at E a k ≡ false = shows a k la (omega arith) ∙ through_past links n joined k (a + 1) (k + 1) (omega arith) in
+    grind (arith))
+    (cases_lt a n))
 
 -- where none passes, there is no least
 least_zero : (p : ℕ → Bool) (n : ℕ) → ((j : ℕ) → j < n → p (j + 1) ≡ false) → least p n ≡ 0

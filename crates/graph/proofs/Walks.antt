@@ -1,12 +1,12 @@
 -- Which tasks reach which is what walks say.
 use Rattle.std.proofs.Common.{◌≡◌, ℕ, zero, suc, ◌+◌, ◌-◌, ◌<◌, ◌≤◌, Bool, true, false, not, eqb, List, [], ◌∷◌, ◌++◌, length, get_or, Some, None, sym, refl, subst, ⊎_elim, arith}
 use Rattle.std.proofs.lemmas.List.{take_all}
-use Rattle.std.proofs.lemmas.Bool.{both_ways, cases_eq, cases_lt, and_parts, or_cases, or_left, ne_eqb, cond-false}
+use Rattle.std.proofs.lemmas.Bool.{both_ways, cases_eq, cases_lt, and_left, and_parts, or_cases, or_left, ne_eqb, cond-false}
 use Rattle.std.proofs.lemmas.Bool.Decides.{nat_tests}
 use Rattle.graph.specs.declared.records.Link.{Link}
 use Rattle.graph.specs.Net.{Net, no_link, linked, joins, Joined}
 use Rattle.graph.specs.Walks.{Linked, Walk, through, reaches, least, circle, some_number, ReachesByWalks, NamesACircle}
-use Rattle.graph.proofs.LastOfs.{last_bound, last_hit, last_zero}
+use Rattle.graph.proofs.LastOfs.{last_bound, last_hit, last_none, last_zero}
 
 pub some_is : (n : ℕ) → (n ≡ 0 → ⊥) → Some n ≡ some_number n
 some_is n ne = sym (cond-false (eqb n 0) None (Some n) (ne_eqb n 0 ne))
@@ -40,9 +40,12 @@ module _ (links : List Link) where
       (v.0 ++ suc k ∷ w.0, walk_on links a (suc k) b v.0 w.0 v.1 w.1))
       (or_cases _ _ e)
 
+  pub through_more : (k a b : ℕ) → through links k a b ≡ true → through links (suc k) a b ≡ true
+  through_more k a b e = or_left _ _ e
+
   through_direct : (k a b : ℕ) → Linked links a b → through links k a b ≡ true
   through_direct zero a b l = is_linked links a b l
-  through_direct (suc k) a b l = or_left _ _ (through_direct k a b l)
+  through_direct (suc k) a b l = through_more k a b (through_direct k a b l)
 
   -- one way after another, where they meet in a task up to k
   pub through_join : (k a c b : ℕ) → 1 ≤ c → c ≤ k → through links k a c ≡ true → through links k c b ≡ true → through links k a b ≡ true
@@ -59,6 +62,20 @@ module _ (links : List Link) where
       (cases_eq c (suc k))
 
   module _ (n : ℕ) (joined : Joined n links) where
+    -- past the tasks that are linked, none reaches any
+    pub through_past : (k a b : ℕ) → n < a → through links k a b ≡ false
+    through_past zero a b past =
+        let none : linked links a b ≡ 0 =
+        last_none (joins a b) no_link links (λ i l.
+        let x = get_or links i no_link in
+        let j = joined i l in
+        and_left (eqb x.sender a) (eqb x.receiver b) (ne_eqb x.sender a (λ e. omega (arith, e, j.1)))) in
+        grind (arith, nat_tests)
+    through_past (suc k) a b past =
+        let straight = through_past k a b past in
+        let before = through_past k a (suc k) past in
+        grind (arith, nat_tests)
+
     reached : (a b : ℕ) (via : List ℕ) → Walk links a via b → through links n a b ≡ true
     reached a b [] w = through_direct n a b w
     reached a b (c ∷ via) w =

@@ -1,5 +1,5 @@
 -- What is known of words whose lists of links were tested.
-use Rattle.std.specs.Prelude.{◌≡◌, ℕ, ◌+◌, ◌*◌, ◌<◌, ◌≤◌, true, List, None, Option, slice_index, slice_index_or}
+use Rattle.std.specs.Prelude.{◌≡◌, ℕ, ◌+◌, ◌*◌, ◌<◌, ◌≤◌, true, List, None, Option, map, slice_index, slice_index_or}
 use Rattle.graph.specs.declared.records.Link.{Link}
 use Rattle.graph.specs.Net.{linked}
 use Rattle.graph.specs.Calls.{is_time}
@@ -31,6 +31,10 @@ Takes pre n = (k : ℕ) → 1 ≤ k → k ≤ n → pre k
 -- each call at a number from 1 to n answers what f says
 abbrev pub Tells : {A : Type 0} → (ℕ → A → Type 0) → ℕ → (ℕ → A) → Type 0
 Tells {A} post n f = (k : ℕ) (x : A) → 1 ≤ k → k ≤ n → post k x → x ≡ f k
+
+-- the entries of a table of numbers, in which 0 is none
+abbrev pub entries : List ℕ → List (Option ℕ)
+entries numbers = map some_number numbers
 
 -- a table of 256 rows: at row a and column b the link from task a + 1 to task b + 1, if there is one
 abbrev pub Pairs : List (Option ℕ) → List Link → Type 0

@@ -3,12 +3,13 @@ ghost use Rattle.std.specs.Prelude.{◌≡◌, ◌+◌, ◌<◌, ◌≤◌, true
 ghost use Rattle.graph.specs.Net.{empty, linked, Sound};
 ghost use Rattle.graph.specs.Outgoing.{ListsAreExact};
 ghost use Rattle.graph.specs.Calls.{is_task, is_time, with_link, add_step, link_step, first_of};
-ghost use Rattle.graph.specs.Walks.{close_rows, Processes, ReachesByWalks, NamesACircle, some_number};
+ghost use Rattle.graph.specs.Walks.{through, close_rows, Processes, ReachesByWalks, NamesACircle, some_number};
+ghost use Rattle.graph.specs.Tables.{Shows};
 ghost use Rattle.graph.specs.Of.{net_of};
 
 use crate::graph::Graph;
 use crate::limits::{MAX_LINKS, MAX_SIZE, MAX_TASKS, MAX_TIME};
-use crate::reach::ReachTable;
+use crate::reach::{ReachTable, Rows, closed, no_rows};
 use crate::records::{Link, Refusal, Task};
 use std::alloc::{AllocError, Global};
 
@@ -162,12 +163,13 @@ impl Graph {
         ensures circles { NamesACircle (net_of self.now) }
     {}
 
-    // The table of what each task reaches.
-    fn reach(&self) -> ReachTable<'_>
+    // The table of what each task reaches, with rows that were found for it.
+    fn reach<'a>(&'a self, rows: &'a Rows) -> ReachTable<'a>
+        requires { Shows rows.now (through (net_of self.now).links (length (net_of self.now).tasks)) }
         ensures links { result.links.now ≡ (net_of self.now).links }
         ensures tasks { result.tasks ≡ length (net_of self.now).tasks }
     {
-        ReachTable::new(self.links.as_slice(), self.tasks.len())
+        ReachTable::new(self.links.as_slice(), self.tasks.len(), rows)
     }
 
     // The order in which the tasks can be processed, in the first places of the answer. It is an array, since this library
@@ -181,7 +183,9 @@ impl Graph {
         if self.tasks.is_empty() {
             return Err(Refusal::NoTask);
         }
-        let table = self.reach();
+        let mut rows = no_rows();
+        closed(&mut rows, self.links.as_slice(), self.tasks.len());
+        let table = self.reach(&rows);
         if let Some(on) = table.least_on_circle() {
             return Err(Refusal::Circle(on));
         }

@@ -1,10 +1,10 @@
 // Testing whether the links of job words can be linked, and adding tasks and links to a graph.
-ghost use Rattle.std.specs.Prelude.{◌≡◌, ◌+◌, ◌-◌, ◌*◌, ◌<◌, ◌≤◌, None, Some, MatchResult};
+ghost use Rattle.std.specs.Prelude.{◌≡◌, ◌+◌, ◌-◌, ◌*◌, ◌<◌, ◌≤◌, None, Some, MatchResult, slice_index_or, slice_set};
 ghost use Rattle.graph.specs.Calls.{first_of};
 ghost use Rattle.graph.specs.Net.{empty};
 ghost use Rattle.graph.specs.Of.{net_of};
 ghost use Rattle.words.specs.Reading.{task_count, link_count, list_rows, verdict, with_tasks, with_links, graph_read, link_refusal, fault_place, first_refused};
-ghost use Rattle.words.specs.Lists.{Pairs};
+ghost use Rattle.words.specs.Lists.{Pairs, entries};
 
 use crate::checks::check_lists;
 use crate::job::JobWords;
@@ -16,8 +16,8 @@ use graph::graph::Graph;
 use graph::limits::{MAX_SIZE, MAX_TASKS};
 use graph::records::Refusal;
 
-// The place of a pair of tasks in a table with a row for each sender, whose numbers of links are `u16` so that it takes
-// no more than 256 KiB. Rows in rows would be two lists to read through where the proofs have one.
+// The place of a pair of tasks in a table with a row for each sender. Rows in rows would be two lists to read through
+// where the proofs have one.
 fn pair_place(sender: u32, receiver: u32) -> usize
     requires sender_some { 1 ≤ sender }
     requires sender_known { sender ≤ 256 }
@@ -27,6 +27,41 @@ fn pair_place(sender: u32, receiver: u32) -> usize
     ensures in_table { result < 65536 }
 {
     (sender as usize - 1) * MAX_TASKS + (receiver as usize - 1)
+}
+
+// The link of each pair of tasks that is linked already, in 128 KiB. A place of 0 is of a pair that is not linked: a
+// table of options would have to be filled place by place, where zeros are filled in at once.
+#[derive(Drop)]
+struct OlderLinks {
+    numbers: [u16; PAIR_ENTRIES],
+}
+
+impl OlderLinks {
+    // The link from one task to another, if there is one.
+    fn link(&self, sender: u32, receiver: u32) -> Option<u16>
+        requires sender_some { 1 ≤ sender }
+        requires sender_known { sender ≤ 256 }
+        requires receiver_some { 1 ≤ receiver }
+        requires receiver_known { receiver ≤ 256 }
+        ensures { result ≡ slice_index_or (entries self.now.numbers) ((sender - 1) * 256 + (receiver - 1)) None }
+    {
+        match self.numbers[pair_place(sender, receiver)] {
+            0 => None,
+            number => Some(number),
+        }
+    }
+
+    // Puts a link from one task to another.
+    fn put(&mut self, sender: u32, receiver: u32, link: u16)
+        requires sender_some { 1 ≤ sender }
+        requires sender_known { sender ≤ 256 }
+        requires receiver_some { 1 ≤ receiver }
+        requires receiver_known { receiver ≤ 256 }
+        requires link_some { 1 ≤ link }
+        ensures { entries self.new.numbers ≡ slice_set (entries self.old.numbers) ((sender - 1) * 256 + (receiver - 1)) (Some link) }
+    {
+        self.numbers[pair_place(sender, receiver)] = link;
+    }
 }
 
 impl<'a> TestedJob<'a> {
@@ -40,10 +75,10 @@ impl<'a> TestedJob<'a> {
     }
 
     // Whether linking a link after those before it is allowed; `older` has the link of each pair that is linked already.
-    fn allowed(&self, older: &[Option<u16>; PAIR_ENTRIES], link: usize) -> Result<(), Refusal>
+    fn allowed(&self, older: &OlderLinks, link: usize) -> Result<(), Refusal>
         requires some { 1 ≤ link }
         requires there { link ≤ link_count self.now.job.words.now }
-        requires older { Pairs older.now (with_links self.now.job.words.now (link - 1)).links }
+        requires older { Pairs (entries older.now.numbers) (with_links self.now.job.words.now (link - 1)).links }
         ensures { result ≡ verdict (link_refusal self.now.job.words.now link) }
     {
         let sender = self.senders[link];
@@ -58,7 +93,7 @@ impl<'a> TestedJob<'a> {
         if self.job.size(link) > MAX_SIZE {
             return Err(Refusal::SizeTooLarge);
         }
-        match older[pair_place(sender, receiver)] {
+        match older.link(sender, receiver) {
             Some(found) => Err(Refusal::AlreadyLinked(u32::from(found))),
             None => Ok(()),
         }
@@ -80,12 +115,18 @@ impl<'a> TestedJob<'a> {
     pub(crate) fn check_links(&self) -> Result<(), ReadRefusal>
         ensures { result ≡ verdict (first_refused self.now.job.words.now (link_count self.now.job.words.now)) }
     {
-        let mut older = [None; PAIR_ENTRIES];
+        // Without links nothing is put into the table, and it need not be cleared.
+        if self.job.link_count() == 0 {
+            return Ok(());
+        }
+        let mut older = OlderLinks {
+            numbers: [0; PAIR_ENTRIES],
+        };
         for link in 1..=self.job.link_count() {
             if let Err(why) = self.allowed(&older, link) {
                 return Err(ReadRefusal::Refused(self.fault_place(link, why), why));
             }
-            older[pair_place(self.senders[link], self.job.receiver(link))] = Some(link as u16);
+            older.put(self.senders[link], self.job.receiver(link), link as u16);
         }
         Ok(())
     }

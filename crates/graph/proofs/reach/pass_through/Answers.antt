@@ -16,4 +16,4 @@ loop-row-preserved c =
     ]
 
 pub returns : goal.returns
-returns c = λ a b la lb. c.loop-row.invariant.done a b (omega arith) lb
+returns c = record { long = c.loop-row.invariant.tall; passed = λ a b la lb. c.loop-row.invariant.done a b (omega arith) lb }

@@ -5,7 +5,7 @@ use Rattle.graph.specs.Net.{linked}
 use Rattle.graph.specs.Walks.{some_number}
 use Rattle.graph.proofs.Walks.{some_is}
 use Rattle.words.specs.Reading.{task_count, with_links, sender_of, verdict}
-use Rattle.words.specs.Lists.{Pairs}
+use Rattle.words.specs.Lists.{Pairs, entries}
 use Rattle.words.proofs.Pairing.{pair_read}
 use Rattle.words.proofs.Building.{fault_receiver, fault_itself, fault_size, fault_again, fault_none}
 use Rattle.words.proofs.tested.TestedJob.allowed.Goals as goal
@@ -64,7 +64,7 @@ returns-in-Some c =
     let known = self.known l c.requires.some c.requires.there in
     let s = self.sends l c.requires.some c.requires.there in
     let h : c.receiver-receiver.result ≤ task_count ws = omega arith in
-    let at = pair-at c.args.older.now ws l (task_count ws) _ _ _ self.job.few_tasks c.requires.older s known c.if-receiver-eq0.false h c.pair_place.ensures.value in
+    let at = c.link.ensures ∙ pair-at (entries c.args.older.now.numbers) ws l (task_count ws) _ _ _ self.job.few_tasks c.requires.older s known c.if-receiver-eq0.false h refl in
     let v : c.from.result ≡ c.in-Some.found = search rules in
     let k = is_some c.in-Some.found _ (sym at ∙ c.in-Some.is) in
     ap (λ n. Err (AlreadyLinked n)) v
@@ -80,7 +80,7 @@ returns-in-None c =
     let known = self.known l c.requires.some c.requires.there in
     let s = self.sends l c.requires.some c.requires.there in
     let h : c.receiver-receiver.result ≤ task_count ws = omega arith in
-    let at = pair-at c.args.older.now ws l (task_count ws) _ _ _ self.job.few_tasks c.requires.older s known c.if-receiver-eq0.false h c.pair_place.ensures.value in
+    let at = c.link.ensures ∙ pair-at (entries c.args.older.now.numbers) ws l (task_count ws) _ _ _ self.job.few_tasks c.requires.older s known c.if-receiver-eq0.false h refl in
     ap (verdict {R = Refusal}) (fault_none ws l self.job.few_links c.requires.some c.requires.there known _ _
     s c.receiver-receiver.ensures c.if-receiver-eq0.false h c.if-sender-receiver.false
     _ _ c.size.ensures c.if-size-gt-MAX_SIZE.false refl (is_none _ (sym at ∙ c.in-None.is)))

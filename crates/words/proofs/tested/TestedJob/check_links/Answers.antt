@@ -1,9 +1,11 @@
-use Rattle.std.proofs.Common.{◌≡◌, ℕ, ◌+◌, ◌-◌, ◌*◌, ◌≤◌, List, None, Option, replicate, refl, sym, ap, ◌∙◌, arith}
+use Rattle.std.proofs.Common.{◌≡◌, ℕ, ◌+◌, ◌-◌, ◌*◌, ◌≤◌, List, None, Option, replicate, refl, sym, ap, ◌∙◌, subst, arith}
 use Rattle.std.proofs.lemmas.List.{get_or-replicate, length-replicate}
 use Rattle.graph.specs.Walks.{some_number}
+use Rattle.words.specs.Lists.{entries}
 use Rattle.words.specs.Reading.{link_count, verdict}
 use Rattle.words.proofs.Building.{pairs_none}
 use Rattle.words.proofs.Checking.{Checked, checked_more, refused_here, receiver_known}
+use Rattle.words.proofs.Pairing.{entries_none}
 use Rattle.words.proofs.Reading.{verdict_ok, verdict_err}
 use Rattle.words.proofs.tested.TestedJob.check_links.Goals as goal
 
@@ -15,14 +17,16 @@ none_yet ws = record {
 }
 
 pub loop-link-init : goal.loop-link-init
-loop-link-init c = record { near = omega arith; checked = none_yet c.args.self.now.job.words.now }
+loop-link-init c =
+    let ws = c.args.self.now.job.words.now in
+    record { near = omega arith; checked = subst (λ t. Checked ws t 0) (sym (entries_none 65536)) (none_yet ws) }
 
 pub returns-in-Err : goal.returns-in-Err
 returns-in-Err c =
     refused_here c.args.self.now.job.words.now c.loop-link.link _ _ (omega arith) (omega arith) c.loop-link.invariant.checked.passed (sym (verdict_err _ _ c.in-Err.ensures)) c.fault_place.ensures
 
-pub pair_place-requires-clause-receiver_known : goal.pair_place-requires-clause-receiver_known
-pair_place-requires-clause-receiver_known c =
+pub put-requires-clause-receiver_known : goal.put-requires-clause-receiver_known
+put-requires-clause-receiver_known c =
     let k = receiver_known c.args.self.now.job.words.now c.loop-link.link (verdict_ok _ c.in_default.ensures) in
     omega (arith, k.1, c.args.self.now.job.few_tasks)
 
@@ -35,8 +39,8 @@ loop-link-preserved c =
     let hi : l ≤ link_count ws = omega arith in
     record {
       near = omega arith;
-      checked = checked_more ws c.loop-link.older l (l + 1 - 1) _ _ _ self.job.few_tasks lo (omega arith) c.pair_place.ensures.value c.loop-link.invariant.checked (self.sends l lo hi) c.receiver.ensures (self.known l lo hi)
-          (verdict_ok _ c.in_default.ensures);
+      checked = subst (λ t. Checked ws t (l + 1 - 1)) (sym c.put.ensures) (checked_more ws (entries c.loop-link.older.numbers) l (l + 1 - 1) _ _ _ self.job.few_tasks lo (omega arith) refl c.loop-link.invariant.checked (self.sends l lo hi)
+          c.receiver.ensures (self.known l lo hi) (verdict_ok _ c.in_default.ensures));
     }
 
 pub returns-in_default : goal.returns-in_default
@@ -47,6 +51,6 @@ returns-in_default c =
     let lo : 1 ≤ l = omega arith in
     let hi : l ≤ link_count ws = omega arith in
     let last : l ≡ link_count ws = omega (arith, c.loop-link.invariant.near) in
-    let all = checked_more ws c.loop-link.older l (link_count ws) _ _ _ self.job.few_tasks lo last c.pair_place.ensures.value c.loop-link.invariant.checked (self.sends l lo hi) c.receiver.ensures (self.known l lo hi)
+    let all = checked_more ws (entries c.loop-link.older.numbers) l (link_count ws) _ _ _ self.job.few_tasks lo last refl c.loop-link.invariant.checked (self.sends l lo hi) c.receiver.ensures (self.known l lo hi)
     (verdict_ok _ c.in_default.ensures) in
     sym (ap verdict all.passed)

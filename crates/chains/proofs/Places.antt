@@ -1,11 +1,13 @@
 -- What the table of places holds while an order is read, and what it decides.
-use Rattle.std.proofs.Common.{◌≡◌, ℕ, suc, ◌+◌, ◌<◌, ◌≤◌, Bool, true, false, eqb, ◌⊎◌, List, [], ◌∷◌, ◌++◌, length, Option, None, Some, Decides, get_or, take, set, sym, refl, ap, ◌∙◌, subst, inl, inr, ⊎_elim, arith}
+use Rattle.std.proofs.Common.{◌≡◌, ℕ, zero, suc, ◌+◌, ◌<◌, ◌≤◌, Bool, true, false, eqb, ◌⊎◌, List, [], ◌∷◌, ◌++◌, map, length, Option, None, Some, Decides, get_or, take, set, sym, refl, ap, ◌∙◌, subst, inl, inr, ⊎_elim, arith}
+use Rattle.std.proofs.Math.ListN.{get_or-map}
+use Rattle.std.proofs.lemmas.Option.{none-some}
 use Rattle.std.proofs.lemmas.List.{get_or-set_same, get_or-set_other, length-set, take_more, take_all, length-take-le, get_or-take}
 use Rattle.std.proofs.lemmas.Bool.{cases_Bool, eqb-false, eq-eqb, ne_eqb, true≢false}
 use Rattle.std.specs.Option.{is_some}
 use Rattle.chains.specs.Lists.{In, Apart}
 use Rattle.chains.specs.Chains.{Blocks, Once, Forward, Ordered, place, has}
-use Rattle.chains.specs.Links.{Numbered, Before, Earlier, message_at}
+use Rattle.chains.specs.Links.{Numbered, Before, Earlier, message_at, number_of}
 use Rattle.chains.specs.declared.message.Message.{Message}
 use Rattle.chains.proofs.Lists.{in_append, in_left, in_right, in_getD, in_index, has_in, in_has, in_place, place_in, apart_append, apart_once}
 
@@ -27,6 +29,34 @@ cases_in b xs = ⊎_elim (λ e. inl (has_in b xs e)) (λ e. inr (λ i. let t : h
 pub is_none : (p : Option ℕ) → is_some p ≡ false → p ≡ None
 is_none None e = refl
 is_none (Some x) e = absurd (true≢false e)
+
+-- a place that the table of numbers stands for
+pub place_at : (xs : List ℕ) (b : ℕ) → number_of (get_or xs b 0) ≡ get_or (map number_of xs) b None
+place_at xs b = sym (get_or-map number_of xs b 0)
+
+earlier_entries : (a b : ℕ) → (0 < a) × (a < b) → Earlier (number_of a) (number_of b)
+earlier_entries zero b h = let low : 0 < 0 = h.0 in absurd (omega arith)
+earlier_entries (suc a) zero h = let lt : suc a < 0 = h.1 in absurd (omega arith)
+earlier_entries (suc a) (suc b) h = let lt : suc a < suc b = h.1 in omega arith
+
+entries_earlier : (a b : ℕ) → Earlier (number_of a) (number_of b) → (0 < a) × (a < b)
+entries_earlier zero b h = absurd h
+entries_earlier (suc a) zero h = absurd h
+entries_earlier (suc a) (suc b) h = let lt : a < b = h in (omega arith, omega arith)
+
+-- what the entries decide, the places that they stand for do
+pub before_by : (xs : List ℕ) (m : Message) (r : Bool) → Decides r ((0 < get_or xs m.from 0) × (get_or xs m.from 0 < get_or xs m.to 0)) → Decides r (Before (map number_of xs) m)
+before_by xs m r d =
+    let a = get_or xs m.from 0 in
+    let b = get_or xs m.to 0 in
+    let P : Option ℕ → Type 0 = λ p. Decides r (Earlier p (get_or (map number_of xs) m.to None)) in
+    let Q : Option ℕ → Type 0 = λ q. Decides r (Earlier (number_of a) q) in
+    subst P (place_at xs m.from) (subst Q (place_at xs m.to) (λ t. earlier_entries a b (d.0 t), λ e. d.1 (entries_earlier a b e)))
+
+-- an entry other than 0 stands for a place
+pub not_none : (n : ℕ) → (n ≡ 0 → ⊥) → number_of n ≡ None → ⊥
+not_none zero not e = not refl
+not_none (suc n) not e = none-some n (sym e)
 
 -- the first k blocks are read
 pub record Read (order : List ℕ) (places : List (Option ℕ)) (k : ℕ) : Type 0 where

@@ -7,6 +7,11 @@ use Rattle.chains.specs.declared.message.Message.{Message}
 abbrev pub message_at : List Message → ℕ → Message
 message_at ms i = slice_index_or ms i (record { from = 0; to = 0; size = 0 })
 
+-- what an entry of a table of numbers stands for: nothing at 0, and else one less
+abbrev pub number_of : ℕ → Option ℕ
+number_of zero = None
+number_of (suc i) = Some i
+
 -- the number of the last message from b among the first i messages; nothing where there is none
 abbrev pub latest : List Message → ℕ → ℕ → Option ℕ
 latest ms b zero = None

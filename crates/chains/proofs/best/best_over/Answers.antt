@@ -1,9 +1,8 @@
-use Rattle.std.proofs.Common.{◌≡◌, ℕ, ◌+◌, ◌≤◌, Option, None, map, length, fold, get_or, take, sym, refl, ap, ◌∙◌, subst, ⊎_elim, arith, rules}
+use Rattle.std.proofs.Common.{◌≡◌, ℕ, ◌+◌, ◌≤◌, map, length, fold, get_or, replicate, take, sym, refl, ap, ◌∙◌, subst, ⊎_elim, arith, rules}
 use Rattle.std.specs.Iterator.Adapters.{rev_source}
 use Rattle.std.specs.Slice.Iter.{iter_rest}
 use Rattle.std.proofs.lemmas.List.{get_or-set_other, take_all}
 use Rattle.std.proofs.lemmas.Bool.{cases_eq}
-use Rattle.std.proofs.lemmas.Option.{none-some, same_Some}
 use Rattle.chains.specs.Lists.{In}
 use Rattle.chains.specs.Chains.{place, successors}
 use Rattle.chains.proofs.Lists.{in_place, all_same}
@@ -24,7 +23,7 @@ loop-block-init g c =
       ap (λ r. take (length r) order) all ∙ take_all (length order) order (omega arith) ∙ sym all,
       λ d b n low within _. absurd (omega arith),
       λ b d _. refl,
-      λ s b q. absurd (none-some b (sym (all_same {A = Option ℕ} None 257 s) ∙ q)),
+      λ s b low q. let z : ◌≡◌ {A = ℕ} (get_or (replicate 257 0) s 0) 0 = all_same {A = ℕ} 0 257 s in absurd (omega arith),
     )
 
 pub best_from-value-requires : goal.best_from-value-requires
@@ -32,13 +31,14 @@ best_from-value-requires g c =
     let order = c.args.order.now in
     let b = c.in-Some.block.now in
     let t = last c.args.messages.now order c.requires _ _ b c.loop-block.invariant.0 c.in-Some.ensures.steps in
+    let low : 1 ≤ b = t.low in
     let most : b ≤ 256 = t.most in (
       search rules,
       (
         most,
         λ s q. let longer : length (iter_rest (rev_source c.loop-block.block-iterator)) ≡ length (iter_rest (rev_source c.next.new.self)) + 1 = t.longer in
             let after : place order b ≡ length (iter_rest (rev_source c.next.new.self)) = t.after in
-            let met : length (iter_rest (rev_source c.loop-block.block-iterator)) ≤ place order b = c.loop-block.invariant.3 s b q in
+            let met : length (iter_rest (rev_source c.loop-block.block-iterator)) ≤ place order b = c.loop-block.invariant.3 s b low q in
             omega arith,
       ),
     )
@@ -74,11 +74,11 @@ loop-block-preserved g c =
       done_more (m.meaning f) (m.laws f) ms order c.requires c.loop-block.best (length less) b c.best_from-value.result t.inside t.at size (subst D t.longer c.loop-block.invariant.1)
           (λ d. c.best_from-value.ensures.value d ∙ ap (λ m'. fold (m.meaning f).better ((m.meaning f).alone b) (map (λ s. (m.meaning f).extended b s (get_or c.loop-block.best s d)) (successors m' b))) c.gather-links.ensures),
       λ x d no. get_or-set_other c.loop-block.best b x c.best_from-value.result d (λ e. no (subst In-order (sym e) t.listed)) ∙ c.loop-block.invariant.2 x d no,
-      λ s x q. ⊎_elim
+      λ s x low q. ⊎_elim
           (λ (e : x ≡ b). let after : place order x ≡ length less = ap (place order) e ∙ t.after in omega arith)
           (λ (n : x ≡ b → ⊥).
           let longer : length (iter_rest (rev_source c.loop-block.block-iterator)) ≡ length less + 1 = t.longer in
-          let met : length (iter_rest (rev_source c.loop-block.block-iterator)) ≤ place order x = c.loop-block.invariant.3 s x (sym (c.best_from-value.ensures.others s (λ e. n (same_Some x b (sym q ∙ e)))) ∙ q) in
+          let met : length (iter_rest (rev_source c.loop-block.block-iterator)) ≤ place order x = c.loop-block.invariant.3 s x low (sym (c.best_from-value.ensures.others s (λ e. n (sym q ∙ e))) ∙ q) in
           omega arith)
           (cases_eq x b),
     )

@@ -1,4 +1,4 @@
-use Rattle.std.proofs.Common.{◌≡◌, ℕ, ◌≤◌, length, None, Some, get_or, take}
+use Rattle.std.proofs.Common.{◌≡◌, ℕ, ◌≤◌, length, get_or, take}
 use Rattle.std.specs.Iterator.Adapters.{rev_source}
 use Rattle.std.specs.Slice.Iter.{iter_rest}
 use Rattle.chains.specs.Lists.{In}
@@ -12,4 +12,4 @@ invariant-loop-block g l =
     (take (length rest) l.order ≡ rest)
     × Done (g.F.ChainFigure.meaning l.figure) l.messages l.order l.best (length rest)
     × ((b : ℕ) (d : g.row.F-Value.Denot) → (In b l.order → ⊥) → get_or l.best b d ≡ get_or l.initial.best b d)
-    × ((s b : ℕ) → get_or l.met s None ≡ Some b → length rest ≤ place l.order b)
+    × ((s b : ℕ) → 1 ≤ b → get_or l.met s 0 ≡ b → length rest ≤ place l.order b)

@@ -1,4 +1,4 @@
-use Rattle.std.proofs.Common.{◌≡◌, ℕ, ◌<◌, ◌≤◌, Bool, true, false, List, Option, None, Some, Decides, map, length, get_or, drop, fold, sym, ap, ◌∙◌, subst, ⊎_elim, arith}
+use Rattle.std.proofs.Common.{◌≡◌, ℕ, ◌<◌, ◌≤◌, Bool, true, false, List, Option, Some, Decides, map, length, get_or, drop, fold, sym, ap, ◌∙◌, subst, ⊎_elim, arith}
 use Rattle.std.proofs.lemmas.Bool.{cases_Bool, true≢false}
 use Rattle.chains.specs.Chains.{successors, has}
 use Rattle.chains.specs.Links.{message_at, latest}
@@ -17,24 +17,19 @@ pub loop-at-init : goal.loop-at-init
 loop-at-init g c =
     let f = g.F.ChainFigure.meaning c.args.figure.now in
     let b = c.args.block in
-    let links = c.args.self.now in
-    let ms = links.messages.now in
-    let at = get_or links.head b None in
-    let first : at ≡ latest ms b (length ms) = links.heads b (omega (arith, c.requires.within)) in (
+    let ms = c.args.self.now.messages.now in
+    let at = c.last_from-at.result in
+    let first : at ≡ latest ms b (length ms) = c.last_from-at.ensures in (
       walked_none ms b c.args.met.now at first c.told-met c.requires.fresh,
       λ d. c.alone-found.ensures ∙ sym (ap (λ ss. fold f.better (f.alone b) (map (λ s. f.extended b s (get_or c.args.best.now s d)) ss)) (none_met ms b c.args.met.now at first)),
     )
 
 pub loop-at-smaller : goal.loop-at-smaller
 loop-at-smaller g c =
-    let links = c.args.self.now in
-    let ms = links.messages.now in
-    let i = c.from-place.result in
-    let is : c.loop-at.at ≡ Some i = c.in-Some.is ∙ ap Some (sym c.from-place.ensures) in
-    let U : Option ℕ → Type 0 = λ p. upto p ≤ length ms in
-    let inside : upto (Some i) ≤ length ms = subst U is c.loop-at.invariant.0.inside in
-    let e : get_or links.next i None ≡ latest ms (message_at ms i).from i = links.nexts i (omega arith) in
-    let u : upto (get_or links.next i None) ≡ upto (latest ms (message_at ms i).from i) = ap upto e in
+    let ms = c.args.self.now.messages.now in
+    let i = c.in-Some.i in
+    let is : c.loop-at.at ≡ Some i = c.in-Some.is in
+    let u : upto c.one_before-at.result ≡ upto (latest ms (message_at ms i).from i) = ap upto c.one_before-at.ensures in
     let l : upto (latest ms (message_at ms i).from i) ≤ i = latest_le ms (message_at ms i).from i in
     let v : upto c.loop-at.at ≡ upto (Some i) = ap upto is in
     omega arith
@@ -46,23 +41,23 @@ loop-at-preserved g c =
     let b = c.args.block in
     let links = c.args.self.now in
     let ms = links.messages.now in
-    let i = c.from-place.result in
-    let is : c.loop-at.at ≡ Some i = c.in-Some.is ∙ ap Some (sym c.from-place.ensures) in
+    let i = c.in-Some.i in
+    let is : c.loop-at.at ≡ Some i = c.in-Some.is in
     let to = (message_at ms i).to in
-    let at' = get_or links.next i None in
+    let at' = c.one_before-at.result in
     let met = c.loop-at.met in
     let before = c.args.met.now in
     let W : Option ℕ → Type 0 = λ p. Walked ms b before p met in
     let w : Walked ms b before (Some i) met = subst W is c.loop-at.invariant.0 in
     let inside : upto (Some i) ≤ length ms = w.inside in
     let lt : i < length ms = omega arith in
-    let e : at' ≡ latest ms (message_at ms i).from i = links.nexts i lt in
+    let e : at' ≡ latest ms (message_at ms i).from i = c.one_before-at.ensures in
     let S = successors (drop (upto (Some i)) ms) b in
     let most : to ≤ 256 = links.receivers i lt in
     let small : to < 257 = omega arith in
     let value : g.row.F-Value.Denot → List ℕ → g.row.F-Value.Denot = λ d ss. fold f.better (f.alone b) (map (λ s. f.extended b s (get_or c.args.best.now s d)) ss) in
     let so_far : (d : g.row.F-Value.Denot) → c.loop-at.found ≡ value d S = λ d. c.loop-at.invariant.1 d ∙ ap (λ p. value d (successors (drop (upto p) ms) b)) is in
-    let Q : List (Option ℕ) → Type 0 = λ m. Walked ms b before at' m in
+    let Q : List ℕ → Type 0 = λ m. Walked ms b before at' m in
     elim c.if-first_time.branch [
       | then-first_time x ↦
           let new : has to S ≡ false = never (has to S) (w.marked to small) (c.first_time.ensures.new.0 x.if-first_time.true) in (

@@ -30,7 +30,7 @@ fn pair_place(sender: u32, receiver: u32) -> usize
 }
 
 // The link of each pair of tasks that is linked already, in 128 KiB. A place of 0 is of a pair that is not linked: a
-// table of options would have to be filled place by place, where zeros are filled in at once.
+// table of options takes twice the room.
 #[derive(Drop)]
 struct OlderLinks {
     numbers: [u16; PAIR_ENTRIES],
